@@ -1,0 +1,12 @@
+pub mod Limits
+pub mod Lists
+pub mod Terms
+pub mod Tables
+pub mod Rules
+pub mod Instructions
+pub mod Machine
+pub mod Translation
+pub mod Passing
+pub mod Numbers
+pub mod Calls
+pub mod Examples
