@@ -1,1 +1,7 @@
+pub mod Tables
+pub mod Substitution
+pub mod Valuations
+pub mod FreeVariables
+pub mod Machine
+pub mod RightSide
 pub mod Examples
