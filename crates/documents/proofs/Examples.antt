@@ -4,9 +4,9 @@ use mathlib.Core.Bool.{true}
 use Rattle.documents.specs.Lists.{every}
 use Rattle.documents.specs.Instructions.{programFrom, plainIn}
 use Rattle.documents.specs.Numbers.{tableIn, subjectIn, ruleIn, codeIn, resultFor}
-use Rattle.documents.specs.Calls.{compileCall, checkCall, runs, runCall, planLine}
+use Rattle.documents.specs.Calls.{compileCall, checkCall, fileIn, readCall, runs, runCall, planLine, planApply}
 use Rattle.documents.specs.Examples.{holds, table}
 
 pub examples : every holds table ≡ true
-unfolding programFrom plainIn tableIn subjectIn ruleIn codeIn resultFor compileCall checkCall runs runCall planLine
+unfolding programFrom plainIn tableIn subjectIn ruleIn codeIn resultFor compileCall checkCall fileIn readCall runs runCall planLine planApply
 examples = refl

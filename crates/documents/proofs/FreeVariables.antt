@@ -10,22 +10,7 @@ use borrow.Author.Tests.{lt-ltb, le-ltb}
 use Rattle.documents.specs.Lists.{every}
 use Rattle.documents.specs.Terms.{Sort, one, many, Tm, Var, Sym, Meta, Abst, Nil, Cons, Term, Terms, len, renameUnder, rename, lift, substUnder, subst}
 use Rattle.documents.specs.Rules.{fv, freevars}
-
-pub of-and : (a b : Bool) → T (a && b) → T a × T b
-of-and true b h = (tt, h)
-of-and false b h = absurd h
-
-pub and-of : (a b : Bool) → T a → T b → T (a && b)
-and-of true b p q = q
-and-of false b p q = absurd p
-
-pub every-append : {A : Type 0} (p : A → Bool) (l m : List A) → every p (l ++ m) ≡ every p l && every p m
-every-append p [] m = refl
-every-append p (a ∷ l) m = rw (every-append p l m) (and-assoc (p a) (every p l) (every p m))
-  where
-    and-assoc : (a b c : Bool) → a && (b && c) ≡ (a && b) && c
-    and-assoc true b c = refl
-    and-assoc false b c = refl
+use Rattle.documents.proofs.Lists.{of-and, and-of, every-append}
 
 -- ---- every free variable satisfies P
 

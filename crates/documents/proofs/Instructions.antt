@@ -9,9 +9,10 @@ use mathlib.Core.List.{List, [], _∷_, _++_, append-assoc, append-nil}
 use lib.Dec.{eqb, leb, eqb·suc-zero}
 use lib.ListN.{length, getD, take, drop, length-append, length-drop}
 use lib.Seq.{take-at, drop-at, take-append-seam, length-take-le, take-add, drop-drop, take-length}
-use borrow.Author.Tests.{le-leb, leb-true, eqb-true}
+use borrow.Author.Tests.{le-leb, leb-true}
 use Rattle.documents.specs.Lists.{need, andThen}
 use Rattle.documents.specs.Instructions.{Piece, instruction, program, bodies, Code, IS, ISABST, NEXT, CHECK, SET, EQVAR, EQIMM, EQI, CELL, LAMBDA, ADBMAL, PUSHVAR, PUSHIMM, PUSHI, End, _▸_, None, Body, Instruction, Program, Bodies, fixedAfter, bodyCount, pairWords, words, pairsIn, Read, whole, plainIn, before, ReadBodies, wholeBodies, plainThen, bodiesThen, bodyThen, programFrom, bodiesFrom, programIn}
+use Rattle.documents.proofs.Lists.{never, needed, branch}
 
 -- passing over words
 pub program-pass : (ws : List ℕ) (k n : ℕ) → programFrom ws k n ≡ programFrom (drop k ws) 0 n
@@ -143,17 +144,6 @@ programIn-words c = ap (λ (l : List ℕ). programFrom l 0 (length (words c))) (
 
 -- ---- The other way: what was read gives the words back
 
-never : {A : Type 0} → _≡_ {A = ℕ} 0 1 → A
-never z = absurd (omega arith)
-
--- one opcode after the other
-branch : {A P : Type 0} (w k : ℕ) {x y r : Option A} → cond (eqb w k) x y ≡ r → (w ≡ k → x ≡ r → P) → (y ≡ r → P) → P
-branch {A} {P} w k {x} {y} {r} e f g = go (eqb w k) refl e
-  where
-    go : (q : Bool) → eqb w k ≡ q → cond q x y ≡ r → P
-    go true q e = f (eqb-true w k q) e
-    go false q e = g e
-
 -- m words behind an opcode are those of an instruction
 abbrev Behind : ℕ → List ℕ → Instruction → ℕ → Type 0
 Behind w ws i m = m ≤ length ws → words i ≡ w ∷ take m ws
@@ -222,10 +212,6 @@ ProgramWords ws = (k n : ℕ) (c : Program) → k + n ≤ length ws → programF
 abbrev BodiesWords : List ℕ → Type 0
 BodiesWords ws = (k n c : ℕ) (a : Bodies) (m : ℕ) → k + n ≤ length ws → bodiesFrom ws k n c ≡ some (wholeBodies a m)
     → (m ≤ n) × (words a ≡ take (n - m) (drop k ws)) × (bodyCount a ≡ c)
-
-needed : {A : Type 0} (q : Bool) (o : Option A) (a : A) → need q o ≡ some a → (q ≡ true) × (o ≡ some a)
-needed true o a e = (refl, e)
-needed false o a e = never (cc)
 
 before-is : (i : Instruction) (o : Option Program) (c : Program) → before i o ≡ some c → (d : Program) × (o ≡ some d) × (c ≡ i ▸ d)
 before-is i none c e = never (cc)

@@ -1,8 +1,8 @@
-pub mod Tables
+pub mod Lists
 pub mod Substitution
 pub mod Valuations
-pub mod Instructions
 pub mod FreeVariables
+pub mod Tables
+pub mod Instructions
 pub mod Machine
-pub mod RightSide
 pub mod Examples

@@ -13,6 +13,7 @@ use borrow.Author.Tests.{le-leb, leb-true, eqb-true, ltb-false}
 use Rattle.documents.specs.Limits.{argumentLimit, indexLimit}
 use Rattle.documents.specs.Lists.{need, andThen}
 use Rattle.documents.specs.Terms.{Sort, one, many, Tm, Var, Sym, Meta, Abst, Nil, Cons, Term, Terms, len}
+use Rattle.documents.proofs.Lists.{never, needed, andThen-assoc, andThen-ext, andThen-some}
 use Rattle.documents.specs.Tables.{Kind, variable, symbol, metavariable, abstraction, other, kindOf, nodeWord, tableOf, Fits, grab, abstract, node, termsIn, single, termIn, nodes, subterm}
 
 -- the terms of t before the terms us
@@ -21,25 +22,11 @@ before one t us = t ∷ us
 before many Nil us = us
 before many (Cons t ts) us = t ∷ before many ts us
 
-never : {A : Type 0} → _≡_ {A = ℕ} 0 1 → A
-never z = absurd (omega arith)
-
 -- ---- From a term to its table and back
 
 grab-before : (ts : Terms) (us : List Term) (k : Terms → List Term → Option (List Term)) → grab (len ts) (before many ts us) k ≡ k ts us
 grab-before Nil us k = refl
 grab-before (Cons t ts) us k = grab-before ts us (λ vs. k (Cons t vs))
-
-andThen-assoc : {A B C : Type 0} (o : Option A) (f : A → Option B) (g : B → Option C) → andThen (andThen o f) g ≡ andThen o (λ a. andThen (f a) g)
-andThen-assoc none f g = refl
-andThen-assoc (some a) f g = refl
-
-andThen-ext : {A B : Type 0} (o : Option A) (f g : A → Option B) → ((a : A) → f a ≡ g a) → andThen o f ≡ andThen o g
-andThen-ext o f g h = ap (andThen o) (fun-ext h)
-
-andThen-some : {A : Type 0} (o : Option A) → andThen o some ≡ o
-andThen-some none = refl
-andThen-some (some a) = refl
 
 -- a node's first word, taken apart
 kind-of-word : (k s : ℕ) → s ≤ indexLimit → nodeWord k s / 65536 ≡ k
@@ -113,11 +100,6 @@ grabbed (suc c) [] r k e = never (cc)
 grabbed (suc c) (u ∷ us) r k e =
     let g = grabbed c us r (λ ts. k (Cons u ts)) e in
     record { arguments = Cons u (g .arguments); rest = g .rest; whole = ap {B = List Term} (λ l. u ∷ l) (g .whole); count = ap suc (g .count); gives = g .gives }
-
--- a test that let an answer through
-needed : {A : Type 0} (q : Bool) (o : Option A) (a : A) → need q o ≡ some a → (q ≡ true) × (o ≡ some a)
-needed true o a e = (refl, e)
-needed false o a e = never (cc)
 
 -- a symbol or a metavariable f over what it grabbed
 applied-holds : (f : Terms → Term) (w c : ℕ) (ws : List ℕ) (us r : List Term)

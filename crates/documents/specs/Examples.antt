@@ -1,15 +1,15 @@
 -- Document 01, 'Proved examples', and figure 1 of 004, as one table. Law `examples`: all of them hold.
 use Prim.Native.Nat.{ℕ, zero, suc}
 use mathlib.Core.Bool.{Bool, true, false, _&&_}
-use mathlib.Core.List.{List, [], _∷_}
+use mathlib.Core.List.{List, [], _∷_, _++_}
 use lib.Dec.{eqb}
-use lib.ListN.{length, take, replicate}
+use lib.ListN.{length, take, drop, replicate}
 use Rattle.documents.specs.Limits.{codeLimit}
 use Rattle.documents.specs.Lists.{every}
 use Rattle.documents.specs.Terms.{Sort, one, many, Tm, Var, Sym, Meta, Abst, Nil, Cons, Term, Terms}
 use Rattle.documents.specs.Tables.{tableOf}
 use Rattle.documents.specs.Instructions.{Program, IS, ISABST, NEXT, CHECK, SET, CELL, LAMBDA, ADBMAL, PUSHVAR, PUSHI, End, _▸_, None, Body, words}
-use Rattle.documents.specs.Calls.{CompileAnswer, compileCall, checkCall, planLine}
+use Rattle.documents.specs.Calls.{CompileAnswer, compileCall, checkCall, planLine, planApply}
 
 abbrev pub sameWords : List ℕ → List ℕ → Bool
 sameWords [] [] = true
@@ -22,6 +22,8 @@ pub data Case : Type 0 where
   compiles : List ℕ → List ℕ → ℕ → List ℕ → Case
   -- left, right, subject, and plan_apply's line
   prints : List ℕ → List ℕ → List ℕ → List ℕ → Case
+  -- a file's bytes, and plan_apply's line
+  applies : List ℕ → List ℕ → Case
   -- code, and the check's number
   checks : List ℕ → ℕ → Case
 
@@ -31,6 +33,7 @@ answersWith a n code = eqb (a .number) n && eqb (a .words) (length code) && same
 abbrev pub holds : Case → Bool
 holds (compiles left right n code) = answersWith (compileCall left right (replicate codeLimit 0)) n code
 holds (prints left right subject line) = sameWords (planLine left right subject) line
+holds (applies bytes line) = sameWords (planApply bytes) line
 holds (checks code n) = eqb (checkCall code) n
 
 -- App is 1/2, Lam 2/1; other letters are symbols, Z a metavariable.
@@ -128,13 +131,25 @@ wordsOfFigure1 =
     ∷ 13 ∷ 1 ∷ 63 ∷ 0 ∷ 8 ∷ 7 ∷ 1
     ∷ 9 ∷ 13 ∷ 0 ∷ 64 ∷ 1 ∷ 0 ∷ 2 ∷ 11 ∷ 0 ∷ 10 ∷ 8 ∷ 8 ∷ 2 ∷ 8 ∷ 9 ∷ 2 ∷ []
 
--- B's code with a PUSHIMM for the PUSHI in the body
-abbrev immediateInBody : List ℕ
-immediateInBody = 0 ∷ 1 ∷ 2 ∷ 0 ∷ 2 ∷ 1 ∷ 1 ∷ 3 ∷ 0 ∷ 4 ∷ 2 ∷ 3 ∷ 0 ∷ 4 ∷ 2 ∷ 13 ∷ 1 ∷ 63 ∷ 1 ∷ 0 ∷ 2 ∷ 12 ∷ 0 ∷ []
+-- B's match part; its build part with a PUSHIMM in the body; a PUSHIMM outside of one; and the body left out, so that no key covers index 0
+abbrev matchB : List ℕ
+matchB = 0 ∷ 1 ∷ 2 ∷ 0 ∷ 2 ∷ 1 ∷ 1 ∷ 3 ∷ 0 ∷ 4 ∷ 2 ∷ 3 ∷ 0 ∷ 4 ∷ 2 ∷ []
 
--- the same outside of a body, of the second entry alone
+abbrev immediateInBody : List ℕ
+immediateInBody = 13 ∷ 1 ∷ 63 ∷ 1 ∷ 0 ∷ 2 ∷ 12 ∷ 0 ∷ []
+
 abbrev immediateOutside : List ℕ
-immediateOutside = 0 ∷ 1 ∷ 2 ∷ 0 ∷ 2 ∷ 1 ∷ 1 ∷ 3 ∷ 0 ∷ 4 ∷ 2 ∷ 3 ∷ 0 ∷ 4 ∷ 2 ∷ 12 ∷ 0 ∷ []
+immediateOutside = 12 ∷ 0 ∷ []
+
+abbrev keyMissing : List ℕ
+keyMissing = 13 ∷ 1 ∷ 63 ∷ 0 ∷ []
+
+-- the file of P9
+abbrev fileOfP9 : List ℕ
+fileOfP9 =
+    1 ∷ 0 ∷ 0 ∷ 0 ∷ 4 ∷ 0 ∷ 1 ∷ 0 ∷ 4 ∷ 0 ∷ 0 ∷ 0 ∷ 1 ∷ 0 ∷ 2 ∷ 0 ∷ 1 ∷ 0 ∷ 0 ∷ 0 ∷ 0
+    ∷ 0 ∷ 0 ∷ 0 ∷ 6 ∷ 0 ∷ 1 ∷ 0 ∷ 4 ∷ 0 ∷ 0 ∷ 0 ∷ 1 ∷ 0 ∷ 3 ∷ 0 ∷ 0 ∷ 0 ∷ 0 ∷ 0 ∷ 1 ∷ 0 ∷ 2 ∷ 0 ∷ 1 ∷ 0 ∷ 0 ∷ 0 ∷ 0
+    ∷ 0 ∷ 0 ∷ 0 ∷ 4 ∷ 0 ∷ 1 ∷ 0 ∷ 4 ∷ 0 ∷ 0 ∷ 0 ∷ 1 ∷ 0 ∷ 0 ∷ 255 ∷ 254 ∷ 0 ∷ 0 ∷ 0 ∷ 0 ∷ []
 
 abbrev pub table : List Case
 table =
@@ -165,9 +180,18 @@ table =
     -- figure 1 of 004
     ∷ compiles leftChain rightChain 0 (words figure1)
     ∷ compiles leftChain rightChain 0 wordsOfFigure1
-    -- code that passes, and 'using PUSHIMM in a body'
+    -- where 6 and 7 are both due, 6 is given
+    ∷ compiles (tableOf (F (just (Z (just (G (just (Var 0)))))))) (tableOf C) 6 []
+    -- code that passes; a PUSHIMM in a body does not, nor a PUSHI that wants a key
     ∷ checks codeB 0
     ∷ checks wordsOfFigure1 0
-    ∷ checks immediateOutside 0
-    ∷ checks immediateInBody 11
+    ∷ checks (matchB ++ immediateOutside) 0
+    ∷ checks (matchB ++ immediateInBody) 11
+    ∷ checks (matchB ++ keyMissing) 11
+    -- files: P9's, one byte more, one less, another version, none
+    ∷ applies fileOfP9 (doneWith (F (just (Abst (Var 65535)))))
+    ∷ applies (fileOfP9 ++ (0 ∷ [])) (refusal 17)
+    ∷ applies (take 68 fileOfP9) (refusal 17)
+    ∷ applies (2 ∷ drop 1 fileOfP9) (refusal 17)
+    ∷ applies [] (refusal 17)
     ∷ []

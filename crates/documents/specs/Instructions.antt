@@ -52,21 +52,65 @@ Program = Code program
 abbrev pub Bodies : Type 0
 Bodies = Code bodies
 
+-- ---- The fourteen opcodes
+
+abbrev pub opIS : ℕ
+opIS = 0
+
+abbrev pub opISABST : ℕ
+opISABST = 1
+
+abbrev pub opNEXT : ℕ
+opNEXT = 2
+
+abbrev pub opCHECK : ℕ
+opCHECK = 3
+
+abbrev pub opSET : ℕ
+opSET = 4
+
+abbrev pub opEQVAR : ℕ
+opEQVAR = 5
+
+abbrev pub opEQIMM : ℕ
+opEQIMM = 6
+
+abbrev pub opEQI : ℕ
+opEQI = 7
+
+abbrev pub opCELL : ℕ
+opCELL = 8
+
+abbrev pub opLAMBDA : ℕ
+opLAMBDA = 9
+
+abbrev pub opADBMAL : ℕ
+opADBMAL = 10
+
+abbrev pub opPUSHVAR : ℕ
+opPUSHVAR = 11
+
+abbrev pub opPUSHIMM : ℕ
+opPUSHIMM = 12
+
+abbrev pub opPUSHI : ℕ
+opPUSHI = 13
+
 abbrev pub opcode : Instruction → ℕ
-opcode (IS s n) = 0
-opcode ISABST = 1
-opcode NEXT = 2
-opcode (CHECK vs) = 3
-opcode SET = 4
-opcode (EQVAR x) = 5
-opcode (EQIMM e) = 6
-opcode (EQI e D ps) = 7
-opcode (CELL s n) = 8
-opcode LAMBDA = 9
-opcode ADBMAL = 10
-opcode (PUSHVAR x) = 11
-opcode (PUSHIMM e) = 12
-opcode (PUSHI e D a) = 13
+opcode (IS s n) = opIS
+opcode ISABST = opISABST
+opcode NEXT = opNEXT
+opcode (CHECK vs) = opCHECK
+opcode SET = opSET
+opcode (EQVAR x) = opEQVAR
+opcode (EQIMM e) = opEQIMM
+opcode (EQI e D ps) = opEQI
+opcode (CELL s n) = opCELL
+opcode LAMBDA = opLAMBDA
+opcode ADBMAL = opADBMAL
+opcode (PUSHVAR x) = opPUSHVAR
+opcode (PUSHIMM e) = opPUSHIMM
+opcode (PUSHI e D a) = opPUSHI
 
 -- the number of fixed words after each of the fourteen opcodes
 abbrev pub fixedWords : List ℕ
@@ -89,20 +133,20 @@ pairWords (p ∷ ps) = p .0 ∷ p .1 ∷ pairWords ps
 
 -- Code as words: opcode first.
 abbrev pub words : {p : Piece} → Code p → List ℕ
-words (IS s n) = 0 ∷ s ∷ n ∷ []
-words ISABST = 1 ∷ []
-words NEXT = 2 ∷ []
-words (CHECK vs) = 3 ∷ length vs ∷ vs
-words SET = 4 ∷ []
-words (EQVAR x) = 5 ∷ x ∷ []
-words (EQIMM e) = 6 ∷ e ∷ []
-words (EQI e D ps) = 7 ∷ e ∷ D ∷ length ps ∷ pairWords ps
-words (CELL s n) = 8 ∷ s ∷ n ∷ []
-words LAMBDA = 9 ∷ []
-words ADBMAL = 10 ∷ []
-words (PUSHVAR x) = 11 ∷ x ∷ []
-words (PUSHIMM e) = 12 ∷ e ∷ []
-words (PUSHI e D a) = 13 ∷ e ∷ D ∷ bodyCount a ∷ words a
+words (IS s n) = opIS ∷ s ∷ n ∷ []
+words ISABST = opISABST ∷ []
+words NEXT = opNEXT ∷ []
+words (CHECK vs) = opCHECK ∷ length vs ∷ vs
+words SET = opSET ∷ []
+words (EQVAR x) = opEQVAR ∷ x ∷ []
+words (EQIMM e) = opEQIMM ∷ e ∷ []
+words (EQI e D ps) = opEQI ∷ e ∷ D ∷ length ps ∷ pairWords ps
+words (CELL s n) = opCELL ∷ s ∷ n ∷ []
+words LAMBDA = opLAMBDA ∷ []
+words ADBMAL = opADBMAL ∷ []
+words (PUSHVAR x) = opPUSHVAR ∷ x ∷ []
+words (PUSHIMM e) = opPUSHIMM ∷ e ∷ []
+words (PUSHI e D a) = opPUSHI ∷ e ∷ D ∷ bodyCount a ∷ words a
 words End = []
 words (i ▸ c) = words i ++ words c
 words None = []
@@ -121,19 +165,19 @@ pub data Read : Type 0 where
 -- the instruction of opcode op whose further words begin ws; a PUSHI is read below, and no other opcode has one
 unfoldable pub plainIn : ℕ → List ℕ → Option Read
 plainIn op ws =
-    cond (eqb op 0) (some (whole (IS (getD ws 0 0) (getD ws 1 0)) 2))
-    (cond (eqb op 1) (some (whole ISABST 0))
-    (cond (eqb op 2) (some (whole NEXT 0))
-    (cond (eqb op 3) (some (whole (CHECK (take (getD ws 0 0) (drop 1 ws))) (1 + getD ws 0 0)))
-    (cond (eqb op 4) (some (whole SET 0))
-    (cond (eqb op 5) (some (whole (EQVAR (getD ws 0 0)) 1))
-    (cond (eqb op 6) (some (whole (EQIMM (getD ws 0 0)) 1))
-    (cond (eqb op 7) (some (whole (EQI (getD ws 0 0) (getD ws 1 0) (pairsIn (take (2 * getD ws 2 0) (drop 3 ws)))) (3 + 2 * getD ws 2 0)))
-    (cond (eqb op 8) (some (whole (CELL (getD ws 0 0) (getD ws 1 0)) 2))
-    (cond (eqb op 9) (some (whole LAMBDA 0))
-    (cond (eqb op 10) (some (whole ADBMAL 0))
-    (cond (eqb op 11) (some (whole (PUSHVAR (getD ws 0 0)) 1))
-    (cond (eqb op 12) (some (whole (PUSHIMM (getD ws 0 0)) 1))
+    cond (eqb op opIS) (some (whole (IS (getD ws 0 0) (getD ws 1 0)) 2))
+    (cond (eqb op opISABST) (some (whole ISABST 0))
+    (cond (eqb op opNEXT) (some (whole NEXT 0))
+    (cond (eqb op opCHECK) (some (whole (CHECK (take (getD ws 0 0) (drop 1 ws))) (1 + getD ws 0 0)))
+    (cond (eqb op opSET) (some (whole SET 0))
+    (cond (eqb op opEQVAR) (some (whole (EQVAR (getD ws 0 0)) 1))
+    (cond (eqb op opEQIMM) (some (whole (EQIMM (getD ws 0 0)) 1))
+    (cond (eqb op opEQI) (some (whole (EQI (getD ws 0 0) (getD ws 1 0) (pairsIn (take (2 * getD ws 2 0) (drop 3 ws)))) (3 + 2 * getD ws 2 0)))
+    (cond (eqb op opCELL) (some (whole (CELL (getD ws 0 0) (getD ws 1 0)) 2))
+    (cond (eqb op opLAMBDA) (some (whole LAMBDA 0))
+    (cond (eqb op opADBMAL) (some (whole ADBMAL 0))
+    (cond (eqb op opPUSHVAR) (some (whole (PUSHVAR (getD ws 0 0)) 1))
+    (cond (eqb op opPUSHIMM) (some (whole (PUSHIMM (getD ws 0 0)) 1))
     none))))))))))))
 
 -- an instruction before the rest of a program
@@ -166,7 +210,7 @@ unfoldable mutual
   programFrom (w ∷ ws) zero zero = some End
   programFrom (w ∷ ws) zero (suc n) =
       need (leb (fixedAfter w) n)
-      (cond (eqb w 13)
+      (cond (eqb w opPUSHI)
       (bodiesThen (bodiesFrom ws 3 (n - 3) (getD ws 2 0)) (getD ws 0 0) (getD ws 1 0) n (λ k m. programFrom ws k m))
       (plainThen (plainIn w ws) n (λ k m. programFrom ws k m)))
 

@@ -32,3 +32,11 @@ workingWords = 8192
 -- a name, or an index written in a table
 abbrev pub indexLimit : ℕ
 indexLimit = 65535
+
+-- a node's first word is kind x 65,536 + name
+abbrev pub kindStep : ℕ
+kindStep = 65536
+
+-- code words hold d + 64 for d
+abbrev pub dShift : ℕ
+dShift = 64

@@ -5,6 +5,7 @@ use mathlib.Core.Option.{Option, none, some}
 use mathlib.Core.List.{List, [], _∷_, map}
 use lib.Dec.{eqb, leb, ltb}
 use lib.ListN.{length, getElem?}
+use Rattle.documents.specs.Limits.{dShift}
 use Rattle.documents.specs.Lists.{every, member, assoc}
 use Rattle.documents.specs.Terms.{Sort, one, many, Tm, Var, Sym, Meta, Abst, Nil, Cons, Term, Terms, len, rename}
 use Rattle.documents.specs.Tables.{nodes}
@@ -38,18 +39,18 @@ fails >>= f = fails
 noStep >>= f = noStep
 
 -- what needs something has no step where that is missing
-abbrev pub needing : {A B : Type 0} → Option A → (A → Outcome B) → Outcome B
-needing none f = noStep
-needing (some a) f = f a
+abbrev pub orNoStep : {A B : Type 0} → Option A → (A → Outcome B) → Outcome B
+orNoStep none f = noStep
+orNoStep (some a) f = f a
 
 abbrev pub test : {A : Type 0} → Bool → A → Outcome A
 test true a = done a
 test false a = fails
 
 -- what has to have a form fails where it has another
-abbrev pub matching : {A B : Type 0} → Option A → (A → Outcome B) → Outcome B
-matching none f = fails
-matching (some a) f = f a
+abbrev pub orFails : {A B : Type 0} → Option A → (A → Outcome B) → Outcome B
+orFails none f = fails
+orFails (some a) f = f a
 
 abbrev pub Action : Type 0
 Action = State → Outcome State
@@ -112,7 +113,7 @@ equal (Cons t ts) us = isCons (equal t) (equal ts) us
 -- A variable y, free in an entry under b abstractions, has a place under the other ones: it is listed, or it lies outside of the b and d
 -- leaves it an index (D is d + 64). Where neither holds, the key or first index is missing that the instruction needs.
 abbrev pub placed : List ℕ → ℕ → ℕ → ℕ → Bool
-placed ks b D y = member ks y || (leb b y && leb 64 (y + D))
+placed ks b D y = member ks y || (leb b y && leb dShift (y + D))
 
 abbrev pub firsts : List (ℕ × ℕ) → List ℕ
 firsts [] = []
@@ -120,7 +121,7 @@ firsts (p ∷ ps) = p .0 ∷ firsts ps
 
 -- assoc vvs (fn a => a+d)
 abbrev pub orMoved : Option ℕ → ℕ → ℕ → ℕ
-orMoved none D y = y + D - 64
+orMoved none D y = y + D - dShift
 orMoved (some x) D y = x
 
 abbrev pub renaming : List (ℕ × ℕ) → ℕ → ℕ → ℕ
@@ -169,7 +170,7 @@ closeBlock (state cs env st off []) = noStep
 closeBlock (state cs env st off (k ∷ nst)) = wrap (state cs env st off nst)
 
 abbrev pub pushVar : ℕ → Action
-pushVar x (state cs env st off nst) = needing (getElem? nst x) (λ k. done (state cs env (Var (x + k) ∷ st) off nst))
+pushVar x (state cs env st off nst) = orNoStep (getElem? nst x) (λ k. done (state cs env (Var (x + k) ∷ st) off nst))
 
 -- NSTACK and OFFSET around a body that is run under n abstractions of an entry
 abbrev pub raise : ℕ → State → State
@@ -180,7 +181,7 @@ lower n (state cs env st off nst) = state cs env st (off - n) (map (λ y. y - n)
 
 -- a variable x of an entry, met under n abstractions of it: its own, or with a body, or free
 abbrev pub pushFree : Option Action → ℕ → ℕ → ℕ → Action
-pushFree none D n x (state cs env st off nst) = done (state cs env (Var (x + D + off - 64) ∷ st) off nst)
+pushFree none D n x (state cs env st off nst) = done (state cs env (Var (x + D + off - dShift) ∷ st) off nst)
 pushFree (some run) D n x σ = run (raise n σ) >>= λ τ. done (lower n τ)
 
 abbrev pub pushMet : Bool → (ℕ → Option Action) → ℕ → ℕ → ℕ → Action
@@ -204,7 +205,7 @@ abbrev pub pushEntry : Entry → State → State
 pushEntry (entry b a) σ = pushed a σ
 
 abbrev pub withEntry : ℕ → (Entry → Action) → Action
-withEntry e f (state cs env st off nst) = needing (getElem? env e) (λ a. f a (state cs env st off nst))
+withEntry e f (state cs env st off nst) = orNoStep (getElem? env e) (λ a. f a (state cs env st off nst))
 
 -- ---- The fourteen instructions
 
@@ -215,9 +216,9 @@ Meaning bodies = ℕ → Option Action
 
 abbrev pub exec : {p : Piece} → Code p → Meaning p
 exec (IS s n) = withCurrent (λ d m t cs env st off nst.
-    matching (argumentsOf s n t) (λ ts. done (state (currents d (m + 1) ts cs) env st off nst)))
+    orFails (argumentsOf s n t) (λ ts. done (state (currents d (m + 1) ts cs) env st off nst)))
 exec ISABST = withCurrent (λ d m t cs env st off nst.
-    matching (bodyOf t) (λ u. done (state (current (d + 1) (m + 1) u ∷ cs) env st off nst)))
+    orFails (bodyOf t) (λ u. done (state (current (d + 1) (m + 1) u ∷ cs) env st off nst)))
 exec NEXT = withCurrent (λ d m t cs env st off nst. done (state cs env st off nst))
 exec (CHECK vs) = withCurrent (λ d m t cs env st off nst.
     test (every (λ y. not (member vs y)) (freevars t)) (state (current d m t ∷ cs) env st off nst))

@@ -5,9 +5,9 @@ use mathlib.Core.Option.{Option, none, some}
 use mathlib.Core.List.{List, [], _∷_}
 use lib.Dec.{eqb, leb, ltb}
 use lib.ListN.{length, getElem?}
-use Rattle.documents.specs.Limits.{argumentLimit, indexLimit, codeLimit}
+use Rattle.documents.specs.Limits.{argumentLimit, indexLimit, codeLimit, dShift}
 use Rattle.documents.specs.Lists.{every, member, upTo, need, andThen}
-use Rattle.documents.specs.Instructions.{Piece, instruction, program, bodies, Code, IS, ISABST, NEXT, CHECK, SET, EQVAR, EQIMM, EQI, CELL, LAMBDA, ADBMAL, PUSHVAR, PUSHIMM, PUSHI, End, _▸_, None, Body, Instruction, Program, Bodies, opcode, bodyCount, keys, programIn}
+use Rattle.documents.specs.Instructions.{Piece, instruction, program, bodies, Code, IS, ISABST, NEXT, CHECK, SET, EQVAR, EQIMM, EQI, CELL, LAMBDA, ADBMAL, PUSHVAR, PUSHIMM, PUSHI, End, _▸_, None, Body, Instruction, Program, Bodies, opCELL, opcode, bodyCount, keys, programIn}
 use Rattle.documents.specs.Machine.{firsts}
 
 -- ---- 01's numbers for code, in its order
@@ -71,7 +71,7 @@ matchTop SET d ds es g = need (ltb (length es) entryLimit) (some (matching (d �
 matchTop (EQVAR x) d ds es g = need (ltb x d) (some (matching (d ∷ ds) es []))
 matchTop (EQIMM e) d ds es g = withSlot (getElem? es e) (λ b h. need (eqb d b) (some (matching (d ∷ ds) es [])))
 matchTop (EQI e D ps) d ds es g = withSlot (getElem? es e) (λ b h.
-    need (eqb (D + b) (d + 64)) (need (leb (length ps) pairLimit)
+    need (eqb (D + b) (d + dShift)) (need (leb (length ps) pairLimit)
     (need (allBelow b (firsts ps)) (need (covers b h (firsts ps)) (need (allBelow d (seconds ps)) (some (matching (d ∷ ds) es [])))))))
 matchTop (CELL s n) d ds es g = none
 matchTop LAMBDA d ds es g = none
@@ -137,7 +137,7 @@ build es inside l nest ADBMAL = shut
 build es inside l nest (PUSHVAR x) = λ hs. need (ltb x (l + blocks hs)) (oneMore hs)
 build es inside l nest (PUSHIMM e) = λ hs. need (not inside) (withSlot (getElem? es e) (λ b g. need (eqb (l + blocks hs) b) (oneMore hs)))
 build es inside l nest (PUSHI e D a) = λ hs. withSlot (getElem? es e) (λ b g.
-    need (eqb (D + b) (l + blocks hs + 64)) (need (leb (bodyCount a) pairLimit) (need (allBelow b (keys a)) (need (covers b g (keys a))
+    need (eqb (D + b) (l + blocks hs + dShift)) (need (leb (bodyCount a) pairLimit) (need (allBelow b (keys a)) (need (covers b g (keys a))
     (need (build es true (l + blocks hs) (nest + blocks hs) a b) (oneMore hs))))))
 build es inside l nest End = λ hs. some hs
 build es inside l nest (i ▸ c) = λ hs. andThen (build es inside l nest i hs) (build es inside l nest c)
@@ -148,7 +148,7 @@ build es inside l nest (Body k c a) = λ b. ltb nest nestLimit && oneTerm (build
 -- ---- The whole
 
 abbrev pub isMatch : Instruction → Bool
-isMatch i = ltb (opcode i) 8
+isMatch i = ltb (opcode i) opCELL
 
 -- none current at the end of the match part; the build part makes exactly one term
 abbrev pub builds : Matching → Program → Bool

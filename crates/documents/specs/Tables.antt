@@ -4,7 +4,7 @@ use mathlib.Core.Bool.{Bool, true, false, cond}
 use mathlib.Core.Option.{Option, none, some}
 use mathlib.Core.List.{List, [], _∷_, _++_}
 use lib.Dec.{eqb, leb, ltb}
-use Rattle.documents.specs.Limits.{argumentLimit, indexLimit}
+use Rattle.documents.specs.Limits.{argumentLimit, indexLimit, kindStep}
 use Rattle.documents.specs.Lists.{need, andThen}
 use Rattle.documents.specs.Terms.{Sort, one, many, Tm, Var, Sym, Meta, Abst, Nil, Cons, Term, Terms, len}
 
@@ -21,7 +21,7 @@ kindOf (suc (suc (suc (suc k)))) = other
 
 -- a node's first word
 abbrev pub nodeWord : ℕ → ℕ → ℕ
-nodeWord kind name = kind * 65536 + name
+nodeWord kind name = kind * kindStep + name
 
 -- The table of a term: two words a node, a node and then its arguments from left to right.
 abbrev pub tableOf : {s : Sort} → Tm s → List ℕ
@@ -62,7 +62,7 @@ node other s c us = none
 abbrev pub termsIn : List ℕ → Option (List Term)
 termsIn [] = some []
 termsIn (w ∷ []) = none
-termsIn (w ∷ c ∷ ws) = andThen (termsIn ws) (node (kindOf (w / 65536)) (w % 65536) c)
+termsIn (w ∷ c ∷ ws) = andThen (termsIn ws) (node (kindOf (w / kindStep)) (w % kindStep) c)
 
 abbrev pub single : List Term → Option Term
 single [] = none

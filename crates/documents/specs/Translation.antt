@@ -5,6 +5,7 @@ use mathlib.Core.Option.{Option, none, some}
 use mathlib.Core.List.{List, [], _∷_}
 use lib.Dec.{eqb, ltb}
 use lib.ListN.{length}
+use Rattle.documents.specs.Limits.{dShift}
 use Rattle.documents.specs.Lists.{keep, member, upTo, pairlists}
 use Rattle.documents.specs.Terms.{Sort, one, many, Tm, Var, Sym, Meta, Abst, Nil, Cons, Term, Terms, len}
 use Rattle.documents.specs.Instructions.{Piece, instruction, program, bodies, Code, IS, ISABST, NEXT, CHECK, SET, EQVAR, EQIMM, EQI, CELL, LAMBDA, ADBMAL, PUSHVAR, PUSHIMM, PUSHI, End, _▸_, None, Body, Instruction, Program, Bodies}
@@ -59,9 +60,9 @@ abbrev pub _⧺_ : Program → Program → Program
 End ⧺ d = d
 (i ▸ c) ⧺ d = i ▸ (c ⧺ d)
 
--- n - b, as code has it: 64 more
+-- n - b, as code words hold it
 abbrev pub offset : ℕ → ℕ → ℕ
-offset n b = n + 64 - b
+offset n b = n + dShift - b
 
 -- 6.1 The left side. `sets` is the number of SETs still to come; an occurrence is the first where its location is below that.
 

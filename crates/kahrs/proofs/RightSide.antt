@@ -9,16 +9,17 @@ use mathlib.Core.Option.{Option, none, some}
 use mathlib.Core.List.{List, [], _∷_, _++_, map}
 use lib.Dec.{T, eqb, leb, leb→le, le→leb}
 use lib.ListN.{length, getElem?, length-map}
 use Rattle.documents.specs.Lists.{every, member}
 use Rattle.documents.specs.Terms.{Sort, one, many, Tm, Var, Sym, Meta, Abst, Nil, Cons, Term, Terms, len, renameUnder, rename, lift, substUnder, subst}
 use Rattle.documents.specs.Rules.{Val, freevars}
 use Rattle.documents.specs.Instructions.{Code, CELL, LAMBDA, ADBMAL, PUSHVAR, PUSHI, End, _▸_, None, Body, Program, Bodies, keys}
 use Rattle.documents.specs.Machine.{Current, Entry, entry, State, state, Outcome, done, fails, noStep, _>>=_, Action, placed, pushFree, push, pushes, pushVar, exec}
 use Rattle.documents.specs.Translation.{Row, row, Located, located, lookup, _⧺_, offset, Built, joined, keyed, rhsMeta, rhs}
 use Rattle.documents.proofs.Substitution.{rename-ext, rename-rename, subst-rename, rename-subst, rename-id, len-rename, select}
 use Rattle.documents.proofs.Valuations.{instance, len-instance}
-use Rattle.documents.proofs.FreeVariables.{of-and, and-of, AllFree, AllFree-map, every-of-free}
+use Rattle.documents.proofs.Lists.{on, of-and, and-of}
+use Rattle.documents.proofs.FreeVariables.{AllFree, AllFree-map, every-of-free}
 use Rattle.documents.proofs.Machine.{onto, cell-onto, Gives, push-is}
 
 -- ---- 004's offset(), as a renaming
 
@@ -177,10 +178,6 @@ module _ (cs : List Current) (env : List Entry) where
       (AllFree-map _ _ a (keyed-gives cs env n b off nst l ds us el lo r e) h)
       ∙ ap (λ (t : Term). done (state cs env (t ∷ st) off nst))
       (sym (ap (rename (offsetOf off nst)) (subst-rename (select n us) (place l b) a) ∙ rename-subst (offsetOf off nst) _ a)))
-    where
-      on : (q : Bool) → T q → q ≡ true
-      on true t = refl
-      on false t = absurd t
 
 -- ---- Lemma 8
 

@@ -1,0 +1,77 @@
+-- Tests and answers: what a test that passed says, and what an answer that came through a test says.
+use mathlib.Core.Path.{_≡_, refl, sym, ap, _∙_, fun-ext}
+use Prim.Native.Nat.{ℕ, zero, suc}
+use native.Mathlib.Omega.{arith}
+use mathlib.Core.Bool.{Bool, true, false, not, _&&_, _||_, cond}
+use mathlib.Core.Option.{Option, none, some}
+use mathlib.Core.List.{List, [], _∷_, _++_}
+use lib.Dec.{T, eqb}
+use borrow.Author.Tests.{eqb-true}
+use Rattle.documents.specs.Lists.{every, need, andThen}
+
+-- where two constructors were said to be equal, `cc` proves this
+pub never : {A : Type 0} → _≡_ {A = ℕ} 0 1 → A
+never z = absurd (omega arith)
+
+-- ---- Tests
+
+pub on : (q : Bool) → T q → q ≡ true
+on true t = refl
+on false t = absurd t
+
+pub T-of : (q : Bool) → q ≡ true → T q
+T-of q e = rw e tt
+
+pub off : (q : Bool) → T (not q) → q ≡ false
+off true t = absurd t
+off false t = refl
+
+pub of-and : (a b : Bool) → T (a && b) → T a × T b
+of-and true b h = (tt, h)
+of-and false b h = absurd h
+
+pub and-of : (a b : Bool) → T a → T b → T (a && b)
+and-of true b p q = q
+and-of false b p q = absurd p
+
+-- a claim by cases on a test, with what the test said
+pub case : (P : Bool → Type 0) (q : Bool) → (T q → P true) → (T (not q) → P false) → P q
+case P true f g = f tt
+case P false f g = g tt
+
+-- one of two answers, by a number
+pub branch : {A P : Type 0} (w k : ℕ) {x y r : Option A} → cond (eqb w k) x y ≡ r → (w ≡ k → x ≡ r → P) → (y ≡ r → P) → P
+branch {A} {P} w k {x} {y} {r} e f g = go (eqb w k) refl e
+  where
+    go : (q : Bool) → eqb w k ≡ q → cond q x y ≡ r → P
+    go true q e = f (eqb-true w k q) e
+    go false q e = g e
+
+and-assoc : (a b c : Bool) → a && (b && c) ≡ (a && b) && c
+and-assoc true b c = refl
+and-assoc false b c = refl
+
+pub every-append : {A : Type 0} (p : A → Bool) (l m : List A) → every p (l ++ m) ≡ every p l && every p m
+every-append p [] m = refl
+every-append p (a ∷ l) m = rw (every-append p l m) (and-assoc (p a) (every p l) (every p m))
+
+-- ---- Answers that may be missing
+
+pub needed : {A : Type 0} (q : Bool) (o : Option A) (a : A) → need q o ≡ some a → (q ≡ true) × (o ≡ some a)
+needed true o a e = (refl, e)
+needed false o a e = never (cc)
+
+pub andThen-assoc : {A B C : Type 0} (o : Option A) (f : A → Option B) (g : B → Option C) → andThen (andThen o f) g ≡ andThen o (λ a. andThen (f a) g)
+andThen-assoc none f g = refl
+andThen-assoc (some a) f g = refl
+
+pub andThen-ext : {A B : Type 0} (o : Option A) (f g : A → Option B) → ((a : A) → f a ≡ g a) → andThen o f ≡ andThen o g
+andThen-ext o f g h = ap (andThen o) (fun-ext h)
+
+pub andThen-some : {A : Type 0} (o : Option A) → andThen o some ≡ o
+andThen-some none = refl
+andThen-some (some a) = refl
+
+pub andThen-is : {A B : Type 0} (o : Option A) (f : A → Option B) (b : B) → andThen o f ≡ some b → (a : A) × (o ≡ some a) × (f a ≡ some b)
+andThen-is none f b e = never (cc)
+andThen-is (some a) f b e = (a, refl, e)

@@ -1,0 +1,1 @@
+// What 004 proves of its machine and its translation: laws only, in proofs/.
