@@ -107,8 +107,15 @@ body-reads k c a p r w n =
     let l = length-append (words c) (words a) in
     let z : suc (suc (length (words c ++ words a))) + n ≡ 2 + (m + (length (words a) + n)) = omega arith in
     let g : 2 + (m + (length (words a) + n)) - 2 - m ≡ length (words a) + n = omega arith in
-    rw (z, body-step k ws (2 + (m + (length (words a) + n))) (bodyCount a) (omega arith), g, program-pass ws 1 m, bodies-pass ws (1 + m) (length (words a) + n) (bodyCount a),
-    append-assoc (words c) (words a) w, p (words a ++ w))
+    rw (
+      z,
+      body-step k ws (2 + (m + (length (words a) + n))) (bodyCount a) (omega arith),
+      g,
+      program-pass ws 1 m,
+      bodies-pass ws (1 + m) (length (words a) + n) (bodyCount a),
+      append-assoc (words c) (words a) w,
+      p (words a ++ w),
+    )
     (ap (λ (l : List ℕ). bodyThen k (some c) (bodiesFrom l 0 (length (words a) + n) (bodyCount a))) (drop-at (m ∷ words c) (words a ++ w) (1 + m) (omega arith))
     ∙ ap (bodyThen k (some c)) (r w n))
 
@@ -251,8 +258,17 @@ pushi-words ws n c h lo ih ib e = go (bodiesFrom ws 3 (n - 3) (getD ws 2 0)) ref
         let r = before-is (PUSHI (getD ws 0 0) (getD ws 1 0) a) (programFrom ws (n - m) m) c e in
         let z : n - (n - m) ≡ m = omega (arith, b .0) in
         let y : n - m - 3 ≡ n - 3 - m = omega arith in
-        rw (r .2, b .1, b .2, ih (n - m) m (r .0) (omega (arith, b .0)) (r .1), take-both (n - m) n ws (omega arith), take-both 3 (n - m) ws (omega (arith, b .0)),
-        three-words ws (omega arith), z, y)
+        rw (
+          r .2,
+          b .1,
+          b .2,
+          ih (n - m) m (r .0) (omega (arith, b .0)) (r .1),
+          take-both (n - m) n ws (omega arith),
+          take-both 3 (n - m) ws (omega (arith, b .0)),
+          three-words ws (omega arith),
+          z,
+          y,
+        )
 
 -- the words of a body: its key, its count b, b words; x words are left behind them, m of these behind all bodies
 body-numbers : (x b m : ℕ) → m ≤ x → let n = x + b + 2 in
@@ -308,6 +324,7 @@ program-step w ws n c h ih ib e =
 
 mutual
   unfolding programFrom
+
   pub program-words : (ws : List ℕ) → ProgramWords ws
   program-words [] k n c h e = nothing-program k n c h e
   program-words (w ∷ ws) (suc k) n c h e = program-words ws k n c (omega arith) e

@@ -112,7 +112,7 @@ applied-holds f w c ws us r table fits h g =
       words =
           ap (λ (l : List ℕ). l ++ tablesOf (g .rest)) (table (g .arguments) (g .count))
           ∙ ap (λ (l : List ℕ). w ∷ c ∷ l) (sym (tablesOf-before (g .arguments) (g .rest)) ∙ sym (ap tablesOf (g .whole)) ∙ h .words);
-      fit = (fits (g .arguments) (g .count) (k .0), k .1)
+      fit = (fits (g .arguments) (g .count) (k .0), k .1);
     })
 
 abst-holds : (s c : ℕ) (ws : List ℕ) (us r : List Term) → s ≡ 0 → c ≡ 1 → Holds ws us → abstract us ≡ some r → Holds (nodeWord 3 s ∷ c ∷ ws) r
@@ -193,7 +193,7 @@ argument-part w c n ws u p = record {
   before = w ∷ c ∷ p .before;
   behind = p .behind;
   whole = ap (λ (l : List ℕ). w ∷ c ∷ l) (p .whole);
-  start = let h = p .start in omega arith
+  start = let h = p .start in omega arith;
 }
 
 first-part : (n : ℕ) (ws vs : List ℕ) (u : Term) → Part ws n u → Part (ws ++ vs) n u
@@ -201,7 +201,7 @@ first-part n ws vs u p = record {
   before = p .before;
   behind = p .behind ++ vs;
   whole = ap (λ (l : List ℕ). l ++ vs) (p .whole) ∙ append-assoc (p .before) _ vs ∙ ap (λ (l : List ℕ). p .before ++ l) (append-assoc (tableOf u) (p .behind) vs);
-  start = p .start
+  start = p .start;
 }
 
 later-part : (m n : ℕ) (ws vs : List ℕ) (u : Term) → length ws ≡ 2 * m → m ≤ n → Part vs (n - m) u → Part (ws ++ vs) n u
@@ -209,7 +209,7 @@ later-part m n ws vs u l h p = record {
   before = ws ++ p .before;
   behind = p .behind;
   whole = ap (λ (l : List ℕ). ws ++ l) (p .whole) ∙ sym (append-assoc ws (p .before) _);
-  start = let k = p .start in rw (length-append ws (p .before)) (omega arith)
+  start = let k = p .start in rw (length-append ws (p .before)) (omega arith);
 }
 
 pub subterm-place : {s : Sort} (t : Tm s) (n : ℕ) (u : Term) → subterm t n ≡ some u → Part (tableOf t) n u

@@ -171,7 +171,7 @@ module _ (cs : List Current) (env : List Entry) where
   pushes-is n b off nst l ds us a st el lo r e h =
       let ks = keys-keyed l ds (e ∙ sym (length-runs n ds us r)) in
       let all : T (every (placed l b (offset n b)) (freevars a)) =
-        every-of-free (placed l b (offset n b)) 0 a (AllFree-map _ _ a (λ y. placed-of-covered l b n y lo) h)
+      every-of-free (placed l b (offset n b)) 0 a (AllFree-map _ _ a (λ y. placed-of-covered l b n y lo) h)
       in
       rw (ks, on (every (placed l b (offset n b)) (freevars a)) all)
       (push-is (exec (keyed l ds)) (offset n b) cs env off nst (λ y. rename (offsetOf off nst) (select n us (place l b y))) 0 a st
