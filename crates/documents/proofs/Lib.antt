@@ -5,4 +5,7 @@ pub mod FreeVariables
 pub mod Tables
 pub mod Instructions
 pub mod Machine
+pub mod Numbers
+pub mod Nodes
+pub mod Paper
 pub mod Examples

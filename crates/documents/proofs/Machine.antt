@@ -10,7 +10,7 @@ use lib.Dec.{ltb}
 use borrow.Author.Tests.{lt-ltb, le-ltb}
 use Rattle.documents.specs.Terms.{Sort, one, many, Tm, Var, Sym, Meta, Abst, Nil, Cons, Term, Terms, len, renameUnder, rename, lift, substUnder, subst}
 use Rattle.documents.specs.Machine.{Current, Entry, State, state, Outcome, done, fails, noStep, _>>=_, Action, split, cell, wrap, pushed, pushFree, pushMet, push}
-use Rattle.documents.proofs.Substitution.{rename-ext, rename-rename, rename-id, len-subst}
+use Rattle.documents.proofs.Substitution.{rename-ext, rename-rename, rename-id, len-subst, substUnders}
 use Rattle.documents.proofs.FreeVariables.{under, unders, AllFree}
 
 -- the terms of t on the stack, pushed one after the other
@@ -41,11 +41,6 @@ module _ (cs : List Current) (env : List Entry) (off : ℕ) (nst : List ℕ) whe
   pub cell-onto : (f : Terms → Term) (ts : Terms) (k : ℕ) → len ts ≡ k → (st : List Term)
       → cell f k (state cs env (onto many ts st) off nst) ≡ done (state cs env (f ts ∷ st) off nst)
   cell-onto f ts k e st = rw (← e) (split-all ts st (λ us rest. done (state cs env (f us ∷ rest) off nst)))
-
--- substUnder, n times
-abbrev pub substUnders : ℕ → (ℕ → Term) → ℕ → Term
-substUnders zero f = f
-substUnders (suc n) f = substUnder (substUnders n f)
 
 module _ (run : ℕ → Option Action) (D : ℕ) (cs : List Current) (env : List Entry) (off : ℕ) (nst : List ℕ) (φ : ℕ → Term) where
   -- the variable y of the entry gives the term φ y, lifted past the abstractions of the entry that are above it

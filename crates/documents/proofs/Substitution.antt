@@ -44,6 +44,15 @@ rename-subst g f (Cons t ts) = ap₂ Cons (rename-subst g f t) (rename-subst g f
 pub lift-subst : {s : Sort} (f : ℕ → Term) (t : Tm s) → subst (substUnder f) (lift t) ≡ lift (subst f t)
 lift-subst f t = subst-rename (substUnder f) suc t ∙ sym (rename-subst suc f t)
 
+-- renameUnder and substUnder, n times
+abbrev pub renameUnders : ℕ → (ℕ → ℕ) → ℕ → ℕ
+renameUnders zero f = f
+renameUnders (suc n) f = renameUnder (renameUnders n f)
+
+abbrev pub substUnders : ℕ → (ℕ → Term) → ℕ → Term
+substUnders zero f = f
+substUnders (suc n) f = substUnder (substUnders n f)
+
 -- Proposition 1, the substitution lemma
 pub subst-subst : {s : Sort} (f g : ℕ → Term) (t : Tm s) → subst f (subst g t) ≡ subst (λ x. subst f (g x)) t
 subst-subst f g (Var x) = refl

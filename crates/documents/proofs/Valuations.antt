@@ -6,7 +6,7 @@ use native.Mathlib.Omega.{arith}
 use mathlib.Core.List.{List, [], _∷_, _++_}
 use Rattle.documents.specs.Terms.{Sort, one, many, Tm, Var, Sym, Meta, Abst, Nil, Cons, Term, Terms, len, renameUnder, rename, lift, substUnder, subst, betas, absts}
 use Rattle.documents.specs.Rules.{Val, Valuation, Substitute, metasubst}
-use Rattle.documents.proofs.Substitution.{subst-ext, rename-ext, rename-rename, subst-rename, rename-id, select, betas-select}
+use Rattle.documents.proofs.Substitution.{subst-ext, rename-ext, rename-rename, subst-rename, rename-id, renameUnders, select, betas-select}
 
 -- the bodies of a valuation
 abbrev pub bodiesOf : (v : Val) → Valuation v → Val
@@ -20,11 +20,6 @@ instance n b (Meta z ts) = subst (select n (instance n b ts)) (b z (len ts))
 instance n b (Abst t) = Abst (instance (suc n) b t)
 instance n b Nil = Nil
 instance n b (Cons t ts) = Cons (instance n b t) (instance n b ts)
-
--- renameUnder, k times
-abbrev renameUnders : ℕ → (ℕ → ℕ) → ℕ → ℕ
-renameUnders zero f = f
-renameUnders (suc k) f = renameUnder (renameUnders k f)
 
 rename-absts : (k : ℕ) (f : ℕ → ℕ) (t : Term) → rename f (absts k t) ≡ absts k (rename (renameUnders k f) t)
 rename-absts zero f t = refl
