@@ -118,8 +118,7 @@ oneTerm (some (h ∷ h₀ ∷ hs)) = false
 abbrev pub Building : Piece → Type 0
 Building instruction = List ℕ → Option (List ℕ)
 Building program = List ℕ → Option (List ℕ)
--- at the depth b of the entry
-Building bodies = ℕ → Bool
+Building bodies = Bool
 
 -- `inside`: in a body. l and nest: the open LAMBDAs, and the blocks and bodies around, where this body (or the whole) began.
 abbrev pub build : {p : Piece} → List Slot → Bool → ℕ → ℕ → Code p → Building p
@@ -138,12 +137,12 @@ build es inside l nest (PUSHVAR x) = λ hs. need (ltb x (l + blocks hs)) (oneMor
 build es inside l nest (PUSHIMM e) = λ hs. need (not inside) (withSlot (getElem? es e) (λ b g. need (eqb (l + blocks hs) b) (oneMore hs)))
 build es inside l nest (PUSHI e D a) = λ hs. withSlot (getElem? es e) (λ b g.
     need (eqb (D + b) (l + blocks hs + dShift)) (need (leb (bodyCount a) pairLimit) (need (allBelow b (keys a)) (need (covers b g (keys a))
-    (need (build es true (l + blocks hs) (nest + blocks hs) a b) (oneMore hs))))))
+    (need (build es true (l + blocks hs) (nest + blocks hs) a) (oneMore hs))))))
 build es inside l nest End = λ hs. some hs
 build es inside l nest (i ▸ c) = λ hs. andThen (build es inside l nest i hs) (build es inside l nest c)
-build es inside l nest None = λ b. true
+build es inside l nest None = true
 -- each body obeys the build rules alone, from l, closes its own blocks and makes exactly one term
-build es inside l nest (Body k c a) = λ b. ltb nest nestLimit && oneTerm (build es true l (nest + 1) c (0 ∷ [])) && build es inside l nest a b
+build es inside l nest (Body k c a) = ltb nest nestLimit && oneTerm (build es true l (nest + 1) c (0 ∷ [])) && build es inside l nest a
 
 -- ---- The whole
 
