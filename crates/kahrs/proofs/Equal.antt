@@ -1,10 +1,9 @@
 -- The machine's test of two terms: it passes exactly where they are one. The first term is taken apart, and the second has to have its form,
 -- so each case is a look at the second term.
 use mathlib.Core.Path.{_≡_, refl, ap, ap₂}
-use Prim.Native.Nat.{ℕ, zero, suc}
-use mathlib.Core.Bool.{Bool, true, false, _&&_}
+use Prim.Native.Nat.{ℕ}
 use lib.Dec.{T, eqb, eqb→eq, eqb-refl}
-use Rattle.documents.specs.Terms.{Sort, one, many, Tm, Var, Sym, Meta, Abst, Nil, Cons, Term, Terms}
+use Rattle.documents.specs.Terms.{Sort, Tm, Var, Sym, Meta, Abst, Nil, Cons, Term, Terms}
 use Rattle.documents.specs.Machine.{isVar, isSym, isMeta, isAbst, isNil, isCons, equal}
 use Rattle.documents.proofs.Lists.{of-and, and-of}
 

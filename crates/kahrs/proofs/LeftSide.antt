@@ -1,51 +1,33 @@
 -- 004's Lemma 7 and its converse: the code of a left side finds the bodies of a valuation in an instance of that side, and fails where there is
 -- no valuation. ENV and the symbol table are parallel, so what is known of an entry is a relation R between a row and a term; soundness is
 -- said of every valuation that goes with the entries afterwards, so none has to be chosen on the way.
-use mathlib.Core.Path.{_≡_, refl, sym, ap, ap₂, _∙_}
+use mathlib.Core.Path.{_≡_, refl, ap, ap₂, _∙_}
 use mathlib.Core.Logic.{_⊎_, inl, inr}
-use Prim.Native.Nat.{ℕ, zero, suc, _+_, _-_, _≤_, _<_}
+use Prim.Native.Nat.{ℕ, zero, suc, _+_, _≤_}
 use native.Mathlib.Omega.{arith}
-use mathlib.Core.Bool.{Bool, true, false, not, _&&_, _||_, cond}
+use mathlib.Core.Bool.{Bool, true, false, not, _&&_, cond}
 use mathlib.Core.Option.{Option, none, some}
-use mathlib.Core.List.{List, [], _∷_, _++_}
-use lib.Dec.{T, eqb, eqb→eq, eqb-refl}
+use mathlib.Core.List.{List, [], _∷_}
+use lib.Dec.{T, eqb}
 use lib.ListN.{length, getElem?}
 use borrow.Author.Tests.{eq-eqb}
 use Rattle.documents.specs.Lists.{every, keep, member, upTo, pairlists}
-use Rattle.documents.specs.Terms.{Sort, one, many, Tm, Var, Sym, Meta, Abst, Nil, Cons, Term, Terms, len, renameUnder, rename}
+use Rattle.documents.specs.Terms.{Sort, one, many, Tm, Var, Sym, Meta, Abst, Nil, Cons, Term, Terms, len, rename}
 use Rattle.documents.specs.Tables.{nodes}
 use Rattle.documents.specs.Rules.{Val, freevars}
-use Rattle.documents.specs.Instructions.{IS, ISABST, NEXT, CHECK, SET, EQVAR, EQI, End, _▸_, Program}
-use Rattle.documents.specs.Machine.{Current, current, Entry, entry, State, state, Outcome, done, fails, noStep, _>>=_, orFails, test, Action, argumentsOf, bodyOf, isVar, equal, placed, firsts, renaming, compares, currents, exec}
-use Rattle.documents.specs.Translation.{Row, row, Located, located, further, lookup, unvar, enter, update, _⧺_, offset, bvset}
-use Rattle.documents.proofs.Lists.{never, on, of-and, case}
+use Rattle.documents.specs.Instructions.{IS, ISABST, _▸_, Program}
+use Rattle.documents.specs.Machine.{Current, current, Entry, entry, State, state, Outcome, done, fails, _>>=_, orFails, test, Action, isVar, equal, placed, renaming, compares, currents, exec}
+use Rattle.documents.specs.Translation.{Row, row, Located, located, further, lookup, enter, update, offset}
+use Rattle.documents.proofs.Lists.{never, on, case}
 use Rattle.documents.proofs.Substitution.{rename-ext, rename-rename, rename-id}
 use Rattle.documents.proofs.Valuations.{instance, len-instance}
-use Rattle.documents.proofs.FreeVariables.{under, unders, AllFree, AllFree-map, free-of-every, every-of-free}
+use Rattle.documents.proofs.FreeVariables.{AllFree, AllFree-map, free-of-every, every-of-free}
 use Rattle.kahrs.proofs.RightSide.{exec-⧺, place, covered, placed-of-covered}
+use Rattle.kahrs.proofs.Renaming.{AllFree-rename, rename-agree}
 use Rattle.kahrs.proofs.Equal.{equal-refl, of-isVar, of-equal}
-use Rattle.kahrs.proofs.Places.{argument, Distinct, Under, argument-place, argument-covered, renaming-argument, argument-renaming, firsts-pairlists, unlisted-covered}
+use Rattle.kahrs.proofs.Places.{argument, Distinct, Under, eqb-both, argument-place, argument-covered, renaming-argument, argument-renaming, firsts-pairlists, unlisted-covered}
 use Rattle.kahrs.proofs.Simple.{vars, len-vars, unvar-vars, update-arguments, instance-meta, Simple}
 use Rattle.kahrs.proofs.Locations.{occurrence, lhsFrom}
-
--- ---- Free variables under a renaming
-
-pub AllFree-rename : {s : Sort} (P : ℕ → Type 0) (f : ℕ → ℕ) (t : Tm s) → ((x : ℕ) → P (f x)) → AllFree P (rename f t)
-AllFree-rename P f (Var x) h = h x
-AllFree-rename P f (Sym s ts) h = AllFree-rename P f ts h
-AllFree-rename P f (Meta z ts) h = AllFree-rename P f ts h
-AllFree-rename P f (Abst t) h = AllFree-rename (under P) (renameUnder f) t (elim [ zero ↦ tt | suc x ↦ h x ])
-AllFree-rename P f Nil h = tt
-AllFree-rename P f (Cons t ts) h = (AllFree-rename P f t h, AllFree-rename P f ts h)
-
-pub rename-agree : {s : Sort} (f g : ℕ → ℕ) (t : Tm s) → AllFree (λ x. f x ≡ g x) t → rename f t ≡ rename g t
-rename-agree f g (Var x) h = ap Var h
-rename-agree f g (Sym s ts) h = ap (Sym s) (rename-agree f g ts h)
-rename-agree f g (Meta z ts) h = ap (Meta z) (rename-agree f g ts h)
-rename-agree f g (Abst t) h =
-    ap Abst (rename-agree (renameUnder f) (renameUnder g) t (AllFree-map _ _ t (elim [ zero ↦ λ u. refl | suc x ↦ λ e. ap suc e ]) h))
-rename-agree f g Nil h = refl
-rename-agree f g (Cons t ts) h = ap₂ Cons (rename-agree f g t (h .0)) (rename-agree f g ts (h .1))
 
 -- ---- The tests of a CHECK and of an EQI
 
@@ -97,7 +79,7 @@ looked R z k (row z′ k′ b l ∷ rows) (entry b′ a ∷ env) p =
     → Looked R z k (row z′ k′ b l ∷ rows) (entry b′ a ∷ env) (cond q (some (located 0 (row z′ k′ b l))) (further (lookup z k rows)))) (eqb z z′ && eqb k k′)
     (λ t e. let (e₁, e₂) = e tt in rw (p .0 .0, ← e₁, ← e₂) (present {b = b} {l = l} a refl refl (rw (e₁, e₂) (p .0 .1))))
     (λ t e. looked-further R z k rows env _ (entry b′ a) _ (looked R z k rows env (p .1)))
-    (λ t. let r = of-and (eqb z z′) (eqb k k′) t in (eqb→eq z z′ (r .0), eqb→eq k k′ (r .1)))
+    (eqb-both z z′ k k′)
 
 -- the row and the term at one place
 pub parallel-at : (R : Row → Term → Type 0) (rows : List Row) (env : List Entry) (i : ℕ) (r : Row) (b : ℕ) (a : Term) → Parallel R rows env
@@ -254,13 +236,13 @@ module _ (st : List Term) (off : ℕ) (nst : List ℕ) where
       (After rows env (update n ts rows) (λ val. Sym s (instance n val ts) ≡ u))
   sound-sym n m s ts rows env (Var x) cs k = inl refl
   sound-sym n m s ts rows env (Sym s′ us) cs k =
-      case (λ q. (T q → T (eqb s s′ && eqb (len us) (len ts)))
+      case (λ q. (T q → (s ≡ s′) × (len us ≡ len ts))
       → Ends (orFails (cond q (some us) none) (λ vs. done (state (currents n (m + 1) vs cs) env st off nst)) >>= exec (lhsFrom n ts rows)) cs
       (After rows env (update n ts rows) (λ val. Sym s (instance n val ts) ≡ Sym s′ us))) (eqb s s′ && eqb (len us) (len ts))
       (λ t h.
-      let r = of-and (eqb s s′) (eqb (len us) (len ts)) (h tt) in
-      ends-map _ cs rows env (update n ts rows) _ _ (λ val e. ap₂ Sym (eqb→eq s s′ (r .0)) e) (k us (eqb→eq (len us) (len ts) (r .1))))
-      (λ t h. inl refl) (λ t. t)
+      let r = h tt in
+      ends-map _ cs rows env (update n ts rows) _ _ (λ val e. ap₂ Sym (r .0) e) (k us (r .1)))
+      (λ t h. inl refl) (eqb-both s s′ (len us) (len ts))
   sound-sym n m s ts rows env (Meta z us) cs k = inl refl
   sound-sym n m s ts rows env (Abst t) cs k = inl refl
 

@@ -1,19 +1,20 @@
 -- Where document 01 numbers locations in the whole symbol table, and subtracts the SETs still to come, a left side's code can as well look at
 -- the rows made so far: no name and count stands twice in a table, so what stands before those rows only moves the places behind it.
 use mathlib.Core.Path.{_≡_, refl, sym, ap, ap₂, _∙_}
-use Prim.Native.Nat.{ℕ, zero, suc, _+_, _-_, _≤_, _<_}
+use Prim.Native.Nat.{ℕ, suc, _+_, _-_}
 use native.Mathlib.Omega.{arith}
-use mathlib.Core.Bool.{Bool, true, false, not, _&&_, cond}
+use mathlib.Core.Bool.{Bool, true, false, _&&_, cond}
 use mathlib.Core.Option.{Option, none, some}
 use mathlib.Core.List.{List, [], _∷_, _++_, append-assoc}
-use lib.Dec.{T, eqb, ltb, eqb→eq}
+use lib.Dec.{eqb}
 use lib.ListN.{length, length-append}
-use borrow.Author.Tests.{lt-ltb, le-ltb, eqb-true, eq-eqb}
+use borrow.Author.Tests.{lt-ltb, le-ltb, eq-eqb}
 use Rattle.documents.specs.Lists.{pairlists}
-use Rattle.documents.specs.Terms.{Sort, one, many, Tm, Var, Sym, Meta, Abst, Nil, Cons, Term, Terms, len}
+use Rattle.documents.specs.Terms.{Sort, Tm, Var, Sym, Meta, Abst, Nil, Cons, Term, Terms, len}
 use Rattle.documents.specs.Instructions.{IS, ISABST, NEXT, CHECK, SET, EQVAR, EQI, End, _▸_, Program}
 use Rattle.documents.specs.Translation.{Row, row, Located, located, further, lookup, unvar, enter, update, symbolTable, _⧺_, offset, bvset, lhsMeta, setsLess, setsAfter, lhs}
-use Rattle.documents.proofs.Lists.{never, T-of, of-and}
+use Rattle.documents.proofs.Lists.{never, T-of}
+use Rattle.kahrs.proofs.Places.{eqb-both}
 use Rattle.kahrs.proofs.Simple.{update-arguments, Simple}
 
 -- ---- No name and count twice
@@ -64,8 +65,8 @@ lookup-past z k i r (row z′ k′ b l ∷ pre) rows f e = go (eqb z z′ && eqb
     go : (q : Bool) → eqb z z′ && eqb k k′ ≡ q → lookup z k (pre ++ rows) ≡ some (located (length pre + i) r)
         → cond q (some (located 0 (row z′ k′ b l))) (further (lookup z k (pre ++ rows))) ≡ some (located (suc (length pre) + i) r)
     go true q h =
-        let d = of-and (eqb z z′) (eqb k k′) (T-of (eqb z z′ && eqb k k′) q) in
-        let n : lookup z k (pre ++ rows) ≡ none = ap₂ (λ (a c : ℕ). lookup a c (pre ++ rows)) (eqb→eq z z′ (d .0)) (eqb→eq k k′ (d .1)) ∙ f .0 in
+        let d = eqb-both z z′ k k′ (T-of (eqb z z′ && eqb k k′) q) in
+        let n : lookup z k (pre ++ rows) ≡ none = ap₂ (λ (a c : ℕ). lookup a c (pre ++ rows)) (d .0) (d .1) ∙ f .0 in
         never (cc)
     go false q h = let a : suc (length pre) + i ≡ suc (length pre + i) = omega arith in rw (h, a)
 
@@ -108,7 +109,8 @@ pub lhs-from : {s : Sort} (tab : List Row) → Fresh tab → (n sets : ℕ) (t :
     → (lhs tab n sets t ≡ lhsFrom n t rows) × (setsAfter tab sets t ≡ length pre)
 lhs-from tab f n sets (Var x) pre rows h q e = let c = length-append pre rows in (refl, omega (arith, ap length q))
 lhs-from tab f n sets (Sym s ts) pre rows h q e = let r = lhs-from tab f n sets ts pre rows h q e in (ap (λ (c : Program). IS s (len ts) ▸ c) (r .0), r .1)
-lhs-from tab f n sets (Meta z ts) pre rows h q e = meta-from n z sets ts pre rows (lookup z (len ts) rows) refl tab (q ∙ ap (λ (l : List Row). pre ++ l) (update-arguments n ts (h .0) (h .1) _)) f e
+lhs-from tab f n sets (Meta z ts) pre rows h q e =
+    meta-from n z sets ts pre rows (lookup z (len ts) rows) refl tab (q ∙ ap (λ (l : List Row). pre ++ l) (update-arguments n ts (h .0) (h .1) _)) f e
 lhs-from tab f n sets (Abst t) pre rows h q e = let r = lhs-from tab f (suc n) sets t pre rows (h .1) q e in (ap (λ (c : Program). ISABST ▸ c) (r .0), r .1)
 lhs-from tab f n sets Nil pre rows h q e = let c = length-append pre rows in (refl, omega (arith, ap length q))
 lhs-from tab f n sets (Cons t ts) pre rows h q e =
@@ -116,7 +118,8 @@ lhs-from tab f n sets (Cons t ts) pre rows h q e =
     let p : tab ≡ (pre ++ added) ++ update n t rows = q ∙ ap (λ (l : List Row). pre ++ l) g ∙ sym (append-assoc pre added (update n t rows)) in
     let r = lhs-from tab f n sets t (pre ++ added) rows (h .0) p e in
     let c = length-append (pre ++ added) (update n t rows) in
-    let w = lhs-from tab f n (setsAfter tab sets t) ts pre (update n t rows) (h .1) q (ap length p ∙ c ∙ ap (λ (m : ℕ). m + length (update n t rows)) (sym (r .1))) in
+    let d : length tab ≡ setsAfter tab sets t + length (update n t rows) = ap length p ∙ c ∙ ap (λ (m : ℕ). m + length (update n t rows)) (sym (r .1)) in
+    let w = lhs-from tab f n (setsAfter tab sets t) ts pre (update n t rows) (h .1) q d in
     (ap₂ _⧺_ (r .0) (w .0), w .1)
 
 -- a left side's code

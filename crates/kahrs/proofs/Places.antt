@@ -1,11 +1,11 @@
 -- The arguments of a metavariable as renamings: `argument n l` puts the arguments l, under n abstractions, for the variables of a body, and
 -- `place l n` takes them back (I1, I2). An EQI's renaming is the way from the arguments of one occurrence to those of another by the body
 -- (I3, I4), and a CHECK's list is what is not covered.
-use mathlib.Core.Path.{_≡_, refl, sym, ap, ap₂, _∙_}
-use Prim.Native.Nat.{ℕ, zero, suc, _+_, _-_, _≤_, _<_}
+use mathlib.Core.Path.{_≡_, refl, sym, ap, _∙_}
+use Prim.Native.Nat.{ℕ, zero, suc, _+_, _≤_, _<_}
 use native.Mathlib.Omega.{arith}
 use mathlib.Core.Bool.{Bool, true, false, not, _&&_, _||_, cond}
-use mathlib.Core.Option.{Option, none, some}
+use mathlib.Core.Option.{some}
 use mathlib.Core.List.{List, [], _∷_, _++_}
 use lib.Dec.{T, eqb, leb, ltb, leb→le, le→leb, eqb→eq, eqb-refl}
 use lib.ListN.{length}
@@ -13,7 +13,7 @@ use borrow.Author.Tests.{ltb-true, ltb-false, lt-ltb, le-ltb, le-leb, lt-leb, eq
 use Rattle.documents.specs.Lists.{keep, member, isset, upTo, pairlists, assoc}
 use Rattle.documents.specs.Machine.{firsts, orMoved, renaming}
 use Rattle.documents.specs.Translation.{offset}
-use Rattle.documents.proofs.Lists.{on, off, of-and, case}
+use Rattle.documents.proofs.Lists.{of-and, case}
 use Rattle.kahrs.proofs.RightSide.{place, covered}
 
 -- the x-th argument, or past the arguments a variable outside of the n abstractions
@@ -36,6 +36,9 @@ distinct-of-isset (a ∷ l) h = let r = of-and (not (member l a)) (isset l) h in
 
 pub eqb-of : (a b : ℕ) → a ≡ b → T (eqb a b)
 eqb-of a b e = rw e (eqb-refl b)
+
+pub eqb-both : (a b c d : ℕ) → T (eqb a b && eqb c d) → (a ≡ b) × (c ≡ d)
+eqb-both a b c d h = let r = of-and (eqb a b) (eqb c d) h in (eqb→eq a b (r .0), eqb→eq c d (r .1))
 
 -- I1: there and back, at a variable that is covered
 pub argument-place : (n : ℕ) (l : List ℕ) (y : ℕ) → T (covered l n y) → argument n l (place l n y) ≡ y

@@ -1,22 +1,22 @@
 -- Simple terms: each metavariable's arguments are distinct variables, bound by the abstractions above. There an instance of a metavariable is
 -- a renaming of its body, and what the tests of 004's crs_rule compute is enough for a left side to be simple.
 use mathlib.Core.Path.{_≡_, refl, sym, ap, ap₂, _∙_}
-use Prim.Native.Nat.{ℕ, zero, suc, _+_, _-_, _≤_, _<_, max}
+use Prim.Native.Nat.{ℕ, zero, suc, _+_, _-_, _≤_, _<_}
 use native.Mathlib.Omega.{arith}
-use mathlib.Core.Bool.{Bool, true, false, not, _&&_, _||_, cond}
-use mathlib.Core.List.{List, [], _∷_, _++_}
+use mathlib.Core.Bool.{false}
+use mathlib.Core.List.{List, [], _∷_}
 use lib.Dec.{T}
 use lib.ListN.{length}
 use borrow.Author.Tests.{le-ltb}
 use Rattle.documents.specs.Lists.{every, isset, isEmpty}
-use Rattle.documents.specs.Terms.{Sort, one, many, Tm, Var, Sym, Meta, Abst, Nil, Cons, Term, Terms, len, rename, subst}
+use Rattle.documents.specs.Terms.{Sort, Tm, Var, Sym, Meta, Abst, Nil, Cons, Term, Terms, len, rename, subst}
 use Rattle.documents.specs.Tables.{depth}
-use Rattle.documents.specs.Rules.{Val, fv, freevars, areVars, simple, closed}
+use Rattle.documents.specs.Rules.{Val, freevars, areVars, simple, closed}
 use Rattle.documents.specs.Translation.{Row, unvar, update}
 use Rattle.documents.proofs.Lists.{of-and}
 use Rattle.documents.proofs.Substitution.{subst-ext, rename-is, select}
 use Rattle.documents.proofs.Valuations.{instance}
-use Rattle.documents.proofs.FreeVariables.{AllFree, AllFree-map, free-of-every}
+use Rattle.documents.proofs.FreeVariables.{AllFree-map, free-of-every}
 use Rattle.kahrs.proofs.RightSide.{Below, below-abst}
 use Rattle.kahrs.proofs.Places.{argument, Distinct, Under, distinct-of-isset}
 
