@@ -1,1 +1,11 @@
 pub mod RightSide
+pub mod Renaming
+pub mod Equal
+pub mod Places
+pub mod Simple
+pub mod Locations
+pub mod LeftSide
+pub mod Known
+pub mod Getval
+pub mod Plain
+pub mod Main

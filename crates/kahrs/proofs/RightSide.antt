@@ -78,7 +78,7 @@ place (a ∷ l) b y = cond (eqb a y) 0 (suc (place l b y))
 abbrev pub covered : List ℕ → ℕ → ℕ → Bool
 covered l b y = member l y || leb b y
 
-placed-of-covered : (l : List ℕ) (b n y : ℕ) → b ≤ 64 → T (covered l b y) → T (placed l b (offset n b) y)
+pub placed-of-covered : (l : List ℕ) (b n y : ℕ) → b ≤ 64 → T (covered l b y) → T (placed l b (offset n b) y)
 placed-of-covered l b n y lo h = go (member l y) h
   where
     go : (q : Bool) → T (q || leb b y) → T (q || (leb b y && leb 64 (y + offset n b)))
