@@ -1,0 +1,6 @@
+pub mod FreeVariables
+pub mod Entries
+pub mod Building
+pub mod Matching
+pub mod NeverStuck
+pub mod Counts
