@@ -1,7 +1,7 @@
 -- Build code that the check follows has a step everywhere. The finished terms of each open block are terms that do not depend on OFFSET and
 -- NSTACK, which only rename them, and whose free variables below the block's abstractions are free in the subject: so a body makes one term,
 -- and a PUSHI is Lemma 8's. A PUSHIMM stands where nothing is renamed.
-use mathlib.Core.Path.{_≡_, refl, sym, ap, ap₂, _∙_, subst as transport}
+use mathlib.Core.Path.{_≡_, refl, sym, ap, ap₂, _∙_}
 use Prim.Native.Nat.{ℕ, zero, suc, _+_, _-_, _≤_, _<_}
 use native.Mathlib.Nat.{le-of-suc-le-suc, not-suc-le-zero}
 use native.Mathlib.Omega.{arith}
@@ -9,21 +9,21 @@ use mathlib.Core.Bool.{Bool, true, false, not, _&&_, _||_, cond}
 use mathlib.Core.Option.{Option, none, some}
 use mathlib.Core.List.{List, [], _∷_, _++_, map}
 use lib.Dec.{T, eqb, leb, ltb, leb→le}
-use lib.ListN.{length, getElem?, length-map}
+use lib.ListN.{length, length-map}
 use borrow.Author.Tests.{eqb-true, leb-true, ltb-true}
 use Rattle.documents.specs.Limits.{argumentLimit, indexLimit, dShift}
-use Rattle.documents.specs.Lists.{every, member, need, andThen}
-use Rattle.documents.specs.Terms.{Sort, one, many, Tm, Var, Sym, Meta, Abst, Nil, Cons, Term, Terms, len, renameUnder, rename, subst}
+use Rattle.documents.specs.Lists.{member, need}
+use Rattle.documents.specs.Terms.{Var, Sym, Abst, Nil, Cons, Term, Terms, len, rename, subst}
 use Rattle.documents.specs.Instructions.{Piece, instruction, program, bodies, Code, IS, ISABST, NEXT, CHECK, SET, EQVAR, EQIMM, EQI, CELL, LAMBDA, ADBMAL, PUSHVAR, PUSHIMM, PUSHI, End, _▸_, None, Body, Instruction, Program, Bodies, bodyCount, keys}
-use Rattle.documents.specs.Machine.{Current, Entry, entry, State, state, Outcome, done, fails, noStep, _>>=_, Action, split, pushes, exec}
+use Rattle.documents.specs.Machine.{Current, Entry, entry, State, state, Outcome, done, _>>=_, Action, split, pushes, exec}
 use Rattle.documents.specs.Translation.{offset, keyed}
-use Rattle.documents.specs.Passing.{openLimit, pairLimit, nestLimit, allBelow, Slot, slot, withSlot, covers, blocks, oneMore, takeMany, shut, oneTerm, build}
+use Rattle.documents.specs.Passing.{openLimit, pairLimit, nestLimit, allBelow, Slot, covers, blocks, oneMore, oneTerm, build}
 use Rattle.documents.proofs.Lists.{never, on, T-of, of-and, case, needed, andThen-is}
 use Rattle.documents.proofs.Substitution.{rename-ext, rename-id, subst-rename, select}
-use Rattle.documents.proofs.FreeVariables.{under, unders, AllFree, AllFree-map}
+use Rattle.documents.proofs.FreeVariables.{unders, AllFree, AllFree-map}
 use Rattle.kahrs.proofs.RightSide.{offsetOf, pushVar-is, place, covered, RunsAll, pushes-is}
 use Rattle.safety.proofs.FreeVariables.{free-both, free-subst, unders-below, unders-past, past-unders}
-use Rattle.safety.proofs.Entries.{Outside, EntriesOk, Named, named, covered-of-covers}
+use Rattle.safety.proofs.Entries.{EntriesOk, Named, named, covered-of-covers}
 
 -- ---- Blocks: the finished terms of each open block, the innermost first, as they are before OFFSET and NSTACK rename them
 
@@ -120,7 +120,7 @@ keyed-programs : (a : Bodies) → a ≡ keyed (keys a) (programs a)
 keyed-programs None = refl
 keyed-programs (Body k c a) = ap (Body k c) (keyed-programs a)
 
-one-term : (o : Option (List ℕ)) → T (oneTerm o) → o ≡ some (1 ∷ [])
+pub one-term : (o : Option (List ℕ)) → T (oneTerm o) → o ≡ some (1 ∷ [])
 one-term none t = absurd t
 one-term (some []) t = absurd t
 one-term (some (h ∷ [])) t = ap (λ (n : ℕ). some (n ∷ [])) (eqb-true h 1 (on (eqb h 1) t))
@@ -182,17 +182,19 @@ module _ (Sub : ℕ → Type 0) where
         go (u ∷ []) [] e f g = record { term = u; free = f .0 .0; runs = g }
 
     module _ (es : List Slot) (ok : EntriesOk Sub es env) where
-      abbrev Claim : (p : Piece) → Code p → Type 0
-      Claim instruction i =
-          (inside : Bool) (l nest : ℕ) (us : List Term) (B : Blocks) (hs : List ℕ) → build es inside l nest i (map length (us ∷ B)) ≡ some hs
-          → BlocksOk l (us ∷ B) → Step inside l (exec i) us B hs
-      Claim program c =
-          (inside : Bool) (l nest : ℕ) (us : List Term) (B : Blocks) (hs : List ℕ) → build es inside l nest c (map length (us ∷ B)) ≡ some hs
-          → BlocksOk l (us ∷ B) → Step inside l (exec c) us B hs
+      -- from blocks as the check counts them to blocks as it steps-then counts them
+      abbrev Follows : (Bool → ℕ → ℕ → List ℕ → Option (List ℕ)) → Action → Type 0
+      Follows check act =
+          (inside : Bool) (l nest : ℕ) (us : List Term) (B : Blocks) (hs : List ℕ) → check inside l nest (map length (us ∷ B)) ≡ some hs
+          → BlocksOk l (us ∷ B) → Step inside l act us B hs
+
+      abbrev pub Claim : (p : Piece) → Code p → Type 0
+      Claim instruction i = Follows (λ inside l nest. build es inside l nest i) (exec i)
+      Claim program c = Follows (λ inside l nest. build es inside l nest c) (exec c)
       Claim bodies a = (inside : Bool) (l nest b : ℕ) → T (build es inside l nest a b) → Made l a
 
-      cells : (s n : ℕ) → Claim instruction (CELL s n)
-      cells s n inside l nest us B hs e f =
+      CELL-steps : (s n : ℕ) → Claim instruction (CELL s n)
+      CELL-steps s n inside l nest us B hs e f =
           let q = needed (leb n (length us)) _ hs (needed (leb n argumentLimit) _ hs (needed (leb s indexLimit) _ hs e .1) .1) in
           let h = leb-true n (length us) (q .0) in
           record {
@@ -203,14 +205,14 @@ module _ (Sub : ℕ → Type 0) where
             goes = λ st off nst g el. split-block (offsetOf off (opened B nst)) n Nil us (laid off nst B st) _ h;
           }
 
-      lambda : Claim instruction LAMBDA
-      lambda inside l nest us B hs e f =
+      LAMBDA-steps : Claim instruction LAMBDA
+      LAMBDA-steps inside l nest us B hs e f =
           let q = needed (ltb (nest + blocks (map length (us ∷ B))) nestLimit) _ hs (needed (ltb (l + blocks (map length (us ∷ B))) openLimit) _ hs e .1) in
           record { top = []; around = us ∷ B; counted = counts-are 0 0 _ hs (q .1) refl; good = (tt, f); goes = λ st off nst g el. refl }
 
-      adbmal : Claim instruction ADBMAL
-      adbmal inside l nest us [] hs e f = never (cc)
-      adbmal inside l nest us (b ∷ B) hs e f =
+      ADBMAL-steps : Claim instruction ADBMAL
+      ADBMAL-steps inside l nest us [] hs e f = never (cc)
+      ADBMAL-steps inside l nest us (b ∷ B) hs e f =
           let q = needed (eqb (length us) 1) _ hs e in
           go us f (eqb-true (length us) 1 (q .0)) (counts-are (length b + 1) (suc (length b)) _ hs (q .1) (omega arith))
         where
@@ -228,8 +230,8 @@ module _ (Sub : ℕ → Type 0) where
                     (rename-ext _ _ u (elim [ zero ↦ refl | suc x ↦ refl ]));
               }
 
-      pushVars : (x : ℕ) → Claim instruction (PUSHVAR x)
-      pushVars x inside l nest us B hs e f =
+      PUSHVAR-steps : (x : ℕ) → Claim instruction (PUSHVAR x)
+      PUSHVAR-steps x inside l nest us B hs e f =
           let q = needed (ltb x (l + blocks (map length (us ∷ B)))) _ hs e in
           let h : x < level B l = rw (level-is l us B) at (ltb-true x _ (q .0)) in
           record {
@@ -240,8 +242,8 @@ module _ (Sub : ℕ → Type 0) where
             goes = λ st off nst g el. pushVar-is cs env x _ off (opened B nst) (rw (length-opened B nst l el) h);
           }
 
-      pushImms : (e : ℕ) → Claim instruction (PUSHIMM e)
-      pushImms n inside l nest us B hs e f =
+      PUSHIMM-steps : (e : ℕ) → Claim instruction (PUSHIMM e)
+      PUSHIMM-steps n inside l nest us B hs e f =
           let q = needed (not inside) _ hs e in
           let r = named Sub es env n (λ b g. need (eqb (l + blocks (map length (us ∷ B))) b) (oneMore (map length (us ∷ B)))) hs ok (q .1) in
           let k = needed (eqb (l + blocks (map length (us ∷ B))) (r .b)) _ hs (r .says) in
@@ -257,8 +259,8 @@ module _ (Sub : ℕ → Type 0) where
                 (sym (rename-ext _ (λ y. y) (r .term) (still-id inside off nst B (q .0) g) ∙ rename-id (r .term))));
           }
 
-      pushIs : (e D : ℕ) (a : Bodies) → Claim bodies a → Claim instruction (PUSHI e D a)
-      pushIs e D a made inside l nest us B hs w f =
+      PUSHI-steps : (e D : ℕ) (a : Bodies) → Claim bodies a → Claim instruction (PUSHI e D a)
+      PUSHI-steps e D a made inside l nest us B hs w f =
           let m = map length (us ∷ B) in
           let asks : ℕ → List ℕ → Option (List ℕ) = λ b g.
           need (eqb (D + b) (l + blocks m + dShift)) (need (leb (bodyCount a) pairLimit) (need (allBelow b (keys a)) (need (covers b g (keys a))
@@ -296,9 +298,9 @@ module _ (Sub : ℕ → Type 0) where
                     ∙ pushes-is cs env n b off (opened B nst) (keys a) (programs a) (p .terms) x _ (length-opened B nst l el ∙ sym en) lo (p .runs) (p .arity) h);
               }
 
-      then : (i : Instruction) (c : Program) (inside : Bool) (l : ℕ) (us : List Term) (B : Blocks) (hs ks : List ℕ)
+      steps-then : (i : Instruction) (c : Program) (inside : Bool) (l : ℕ) (us : List Term) (B : Blocks) (hs ks : List ℕ)
           → (s : Step inside l (exec i) us B hs) → Step inside l (exec c) (s .top) (s .around) ks → Step inside l (exec (i ▸ c)) us B ks
-      then i c inside l us B hs ks s t =
+      steps-then i c inside l us B hs ks s t =
           record {
             top = t .top;
             around = t .around;
@@ -317,18 +319,18 @@ module _ (Sub : ℕ → Type 0) where
       builds-as-checked (EQVAR x) = λ inside l nest us B hs e f. never (cc)
       builds-as-checked (EQIMM n) = λ inside l nest us B hs e f. never (cc)
       builds-as-checked (EQI n D ps) = λ inside l nest us B hs e f. never (cc)
-      builds-as-checked (CELL s n) = cells s n
-      builds-as-checked LAMBDA = lambda
-      builds-as-checked ADBMAL = adbmal
-      builds-as-checked (PUSHVAR x) = pushVars x
-      builds-as-checked (PUSHIMM n) = pushImms n
-      builds-as-checked (PUSHI n D a) = pushIs n D a (builds-as-checked a)
+      builds-as-checked (CELL s n) = CELL-steps s n
+      builds-as-checked LAMBDA = LAMBDA-steps
+      builds-as-checked ADBMAL = ADBMAL-steps
+      builds-as-checked (PUSHVAR x) = PUSHVAR-steps x
+      builds-as-checked (PUSHIMM n) = PUSHIMM-steps n
+      builds-as-checked (PUSHI n D a) = PUSHI-steps n D a (builds-as-checked a)
       builds-as-checked End = λ inside l nest us B hs e f.
           record { top = us; around = B; counted = counts-are (length us) _ _ hs e refl; good = f; goes = λ st off nst g el. refl }
       builds-as-checked (i ▸ c) = λ inside l nest us B hs e f.
           let q = andThen-is (build es inside l nest i (map length (us ∷ B))) _ hs e in
           let s = builds-as-checked i inside l nest us B (q .0) (q .1) f in
-          then i c inside l us B (q .0) hs s (builds-as-checked c inside l nest (s .top) (s .around) hs (rw (s .counted) at (q .2)) (s .good))
+          steps-then i c inside l us B (q .0) hs s (builds-as-checked c inside l nest (s .top) (s .around) hs (rw (s .counted) at (q .2)) (s .good))
       builds-as-checked None = λ inside l nest b t. record { terms = Nil; arity = refl; runs = tt; inside = tt }
       builds-as-checked (Body k c a) = λ inside l nest b t.
           let q = of-and (ltb nest nestLimit && oneTerm (build es true l (nest + 1) c (0 ∷ []))) (build es inside l nest a b) t in

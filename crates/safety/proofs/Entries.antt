@@ -1,14 +1,14 @@
 -- The environment against the check's entries: each entry has the depth that the check keeps, its variables past that depth are free in the
 -- subject, and none stands in its guard. So keys that cover the indices below b outside the guard have a place for every variable of the entry.
-use mathlib.Core.Path.{_≡_, refl, sym, ap, _∙_}
+use mathlib.Core.Path.{_≡_, refl, ap}
 use mathlib.Core.Logic.{_⊎_, inl, inr}
-use Prim.Native.Nat.{ℕ, zero, suc, _+_, _-_, _≤_, _<_}
+use Prim.Native.Nat.{ℕ, zero, suc, _+_, _≤_}
 use native.Mathlib.Omega.{arith}
 use native.Mathlib.Decide.{ℕ-discrete}
 use mathlib.Core.Bool.{Bool, true, false, not, _&&_, _||_}
-use mathlib.Core.Option.{Option, none, some}
-use mathlib.Core.List.{List, [], _∷_, _++_}
-use lib.Dec.{T, T-not, leb, leb→le, le→leb}
+use mathlib.Core.Option.{Option, some}
+use mathlib.Core.List.{List, [], _∷_}
+use lib.Dec.{T, leb, leb→le, le→leb}
 use lib.ListN.{length, getElem?}
 use Rattle.documents.specs.Limits.{dShift}
 use Rattle.documents.specs.Lists.{every, member, upTo}

@@ -4,8 +4,14 @@ use mathlib.Core.Path.{_≡_, subst as transport}
 use Prim.Native.Nat.{ℕ, zero, suc, _+_, _-_, _≤_, _<_}
 use native.Mathlib.Nat.{le-of-suc-le-suc, not-suc-le-zero}
 use native.Mathlib.Omega.{arith}
-use Rattle.documents.specs.Terms.{Sort, one, many, Tm, Var, Sym, Meta, Abst, Nil, Cons, Term, renameUnder, rename, substUnder, subst}
-use Rattle.documents.proofs.FreeVariables.{under, unders, AllFree, AllFree-map}
+use mathlib.Core.Bool.{Bool, true, false, _||_}
+use mathlib.Core.List.{List, [], _∷_}
+use lib.Dec.{T, eqb, eqb-refl}
+use Rattle.documents.specs.Lists.{every, member}
+use Rattle.documents.specs.Terms.{Sort, Tm, Var, Sym, Meta, Abst, Nil, Cons, Term, renameUnder, rename, substUnder, subst}
+use Rattle.documents.specs.Rules.{freevars}
+use Rattle.documents.proofs.Lists.{on, and-of}
+use Rattle.documents.proofs.FreeVariables.{under, unders, AllFree, AllFree-map, free-of-every}
 
 pub free-all : {s : Sort} (P : ℕ → Type 0) (t : Tm s) → ((x : ℕ) → P x) → AllFree P t
 free-all P (Var x) h = h x
@@ -40,6 +46,20 @@ free-subst P f (Abst t) a =
     (AllFree-map _ _ t (elim [ zero ↦ λ u. tt | suc x ↦ λ h. free-rename P (under P) suc (f x) (λ y p. p) h ]) a)
 free-subst P f Nil a = tt
 free-subst P f (Cons t ts) a = (free-subst P f t (a .0), free-subst P f ts (a .1))
+
+-- ---- a term's free variables are among them
+
+every-of-members : (p : ℕ → Bool) (l : List ℕ) → ((x : ℕ) → T (member l x) → T (p x)) → T (every p l)
+every-of-members p [] h = tt
+every-of-members p (a ∷ l) h =
+    and-of (p a) (every p l) (h a (rw (on (eqb a a) (eqb-refl a)) tt)) (every-of-members p l (λ x m. h x (further (eqb a x) (member l x) m)))
+  where
+    further : (q r : Bool) → T r → T (q || r)
+    further true r m = tt
+    further false r m = m
+
+pub free-in-itself : (t : Term) → AllFree (λ x. T (member (freevars t) x)) t
+free-in-itself t = free-of-every (member (freevars t)) 0 t (every-of-members (member (freevars t)) (freevars t) (λ x m. m))
 
 -- ---- n abstractions down
 

@@ -1,27 +1,27 @@
 -- A match instruction that the check follows fails, or goes on to a state that the check follows: current terms of the depths that the check
 -- keeps, entries as it keeps them, and no variable of the current term in the list of a CHECK directly before. No case has no step: EQI's first
 -- indices have a place for every variable of a guarded entry.
-use mathlib.Core.Path.{_≡_, refl, sym, ap, _∙_}
-use Prim.Native.Nat.{ℕ, zero, suc, _+_, _-_, _≤_, _<_}
+use mathlib.Core.Path.{_≡_, refl, ap}
+use Prim.Native.Nat.{ℕ, suc, _+_, _≤_, _<_}
 use native.Mathlib.Omega.{arith}
-use mathlib.Core.Bool.{Bool, true, false, not, _&&_, _||_, cond}
+use mathlib.Core.Bool.{Bool, true, false, not, _&&_, cond}
 use mathlib.Core.Option.{Option, none, some}
 use mathlib.Core.List.{List, [], _∷_}
 use lib.Dec.{T, eqb, eqb→eq, leb, ltb}
-use lib.ListN.{length, getElem?}
+use lib.ListN.{length}
 use borrow.Author.Tests.{eqb-true, ltb-true}
 use Rattle.documents.specs.Limits.{argumentLimit, indexLimit, dShift}
 use Rattle.documents.specs.Lists.{every, member, need}
-use Rattle.documents.specs.Terms.{Sort, one, many, Tm, Var, Sym, Meta, Abst, Nil, Cons, Term, Terms, len, rename}
+use Rattle.documents.specs.Terms.{Var, Sym, Meta, Abst, Nil, Cons, Term, Terms, len, rename}
 use Rattle.documents.specs.Tables.{nodes}
 use Rattle.documents.specs.Rules.{freevars}
-use Rattle.documents.specs.Instructions.{Piece, instruction, Code, IS, ISABST, NEXT, CHECK, SET, EQVAR, EQIMM, EQI, CELL, LAMBDA, ADBMAL, PUSHVAR, PUSHIMM, PUSHI, Instruction}
-use Rattle.documents.specs.Machine.{Current, current, Entry, entry, State, state, Outcome, done, fails, noStep, test, orFails, argumentsOf, bodyOf, isVar, equal, placed, firsts, renaming, currents, exec}
-use Rattle.documents.specs.Passing.{currentLimit, openLimit, entryLimit, checkLimit, pairLimit, Slot, slot, withSlot, covers, seconds, allBelow, Matching, matching, times, matchTop, matchStep}
+use Rattle.documents.specs.Instructions.{IS, ISABST, NEXT, CHECK, SET, EQVAR, EQIMM, EQI, CELL, LAMBDA, ADBMAL, PUSHVAR, PUSHIMM, PUSHI, Instruction, Program}
+use Rattle.documents.specs.Machine.{Current, current, Entry, State, state, Outcome, done, fails, _>>=_, test, orFails, argumentsOf, bodyOf, isVar, equal, placed, firsts, renaming, currents, exec}
+use Rattle.documents.specs.Passing.{currentLimit, openLimit, entryLimit, checkLimit, pairLimit, Slot, covers, seconds, allBelow, Matching, matching, times, matchTop, matchStep}
 use Rattle.documents.proofs.Lists.{never, on, T-of, of-and, needed}
-use Rattle.documents.proofs.FreeVariables.{under, unders, AllFree, free-of-every}
+use Rattle.documents.proofs.FreeVariables.{unders, AllFree, free-of-every}
 use Rattle.safety.proofs.FreeVariables.{free-all}
-use Rattle.safety.proofs.Entries.{Outside, EntriesOk, Named, named, all-placed}
+use Rattle.safety.proofs.Entries.{Outside, EntriesOk, named, all-placed}
 
 module _ (Sub : ℕ → Type 0) where
   abbrev pub CurrentsOk : List ℕ → List Current → Type 0
@@ -73,26 +73,26 @@ module _ (Sub : ℕ → Type 0) where
     as-checked : {m m′ : Matching} {r : Outcome State} → some m ≡ some m′ → Goes m r → Goes m′ r
     as-checked {m} {m′} {r} e h = let p : m ≡ m′ = cc in rw p at h
 
-    is-goes : (s n d d′ k : ℕ) (t : Term) (ds : List ℕ) (cs : List Current) (es : List Slot) (env : List Entry)
+    IS-goes : (s n d d′ k : ℕ) (t : Term) (ds : List ℕ) (cs : List Current) (es : List Slot) (env : List Entry)
         → d′ ≡ d → d ≤ openLimit → AllFree (unders d Sub) t → CurrentsOk ds cs → EntriesOk Sub es env
         → Goes (matching (times n d ds) es []) (orFails (argumentsOf s n t) (λ ts. done (state (currents d′ k ts cs) env st off nst)))
-    is-goes s n d d′ k (Var x) ds cs es env e lo f o ok = failing refl
-    is-goes s n d d′ k (Meta z ts) ds cs es env e lo f o ok = failing refl
-    is-goes s n d d′ k (Abst t) ds cs es env e lo f o ok = failing refl
-    is-goes s n d d′ k (Sym s′ ts) ds cs es env e lo f o ok = go (eqb s s′ && eqb (len ts) n) (λ h. eqb→eq (len ts) n (of-and (eqb s s′) (eqb (len ts) n) h .1))
+    IS-goes s n d d′ k (Var x) ds cs es env e lo f o ok = failing refl
+    IS-goes s n d d′ k (Meta z ts) ds cs es env e lo f o ok = failing refl
+    IS-goes s n d d′ k (Abst t) ds cs es env e lo f o ok = failing refl
+    IS-goes s n d d′ k (Sym s′ ts) ds cs es env e lo f o ok = go (eqb s s′ && eqb (len ts) n) (λ h. eqb→eq (len ts) n (of-and (eqb s s′) (eqb (len ts) n) h .1))
       where
         go : (q : Bool) → (T q → len ts ≡ n)
             → Goes (matching (times n d ds) es []) (orFails (cond q (some ts) none) (λ ts. done (state (currents d′ k ts cs) env st off nst)))
         go true h = goes-on (rw (← (h tt)) (currents-ok ts d d′ k ds cs e lo f o), ok, unguarded (currents d′ k ts cs))
         go false h = failing refl
 
-    isabst-goes : (d d′ k : ℕ) (t : Term) (ds : List ℕ) (cs : List Current) (es : List Slot) (env : List Entry)
+    ISABST-goes : (d d′ k : ℕ) (t : Term) (ds : List ℕ) (cs : List Current) (es : List Slot) (env : List Entry)
         → d′ ≡ d → d < openLimit → AllFree (unders d Sub) t → CurrentsOk ds cs → EntriesOk Sub es env
         → Goes (matching ((d + 1) ∷ ds) es []) (orFails (bodyOf t) (λ u. done (state (current (d′ + 1) k u ∷ cs) env st off nst)))
-    isabst-goes d d′ k (Var x) ds cs es env e lo f o ok = failing refl
-    isabst-goes d d′ k (Sym s ts) ds cs es env e lo f o ok = failing refl
-    isabst-goes d d′ k (Meta z ts) ds cs es env e lo f o ok = failing refl
-    isabst-goes d d′ k (Abst t) ds cs es env e lo f o ok =
+    ISABST-goes d d′ k (Var x) ds cs es env e lo f o ok = failing refl
+    ISABST-goes d d′ k (Sym s ts) ds cs es env e lo f o ok = failing refl
+    ISABST-goes d d′ k (Meta z ts) ds cs es env e lo f o ok = failing refl
+    ISABST-goes d d′ k (Abst t) ds cs es env e lo f o ok =
         let s : d + 1 ≡ suc d = omega arith in
         let e′ : d′ + 1 ≡ d + 1 = omega arith in
         let lo′ : d + 1 ≤ openLimit = omega arith in
@@ -105,10 +105,10 @@ module _ (Sub : ℕ → Type 0) where
         → Goes m (exec i (state (current d′ k t ∷ cs) env st off nst))
     top-goes (IS s n) d d′ k t ds cs es env g m w e lo f o ok gd =
         let q = needed (leb (length ds + n) currentLimit) _ m (needed (leb n argumentLimit) _ m (needed (leb s indexLimit) _ m w .1) .1) in
-        as-checked (q .1) (is-goes s n d d′ (k + 1) t ds cs es env e lo f o ok)
+        as-checked (q .1) (IS-goes s n d d′ (k + 1) t ds cs es env e lo f o ok)
     top-goes ISABST d d′ k t ds cs es env g m w e lo f o ok gd =
         let q = needed (ltb d openLimit) _ m w in
-        as-checked (q .1) (isabst-goes d d′ (k + 1) t ds cs es env e (ltb-true d openLimit (q .0)) f o ok)
+        as-checked (q .1) (ISABST-goes d d′ (k + 1) t ds cs es env e (ltb-true d openLimit (q .0)) f o ok)
     top-goes NEXT d d′ k t ds cs es env g m w e lo f o ok gd = as-checked w (goes-on (o, ok, unguarded cs))
     top-goes (CHECK vs) d d′ k t ds cs es env g m w e lo f o ok gd =
         let q = needed (allBelow d vs) _ m (needed (leb (length vs) checkLimit) _ m w .1) in
@@ -150,3 +150,9 @@ module _ (Sub : ℕ → Type 0) where
     matches-as-checked i (matching (d ∷ ds) es g) m′ [] env w a = absurd (a .0)
     matches-as-checked i (matching (d ∷ ds) es g) m′ (current d′ k t ∷ cs) env w a =
         top-goes i d d′ k t ds cs es env g m′ w (a .0 .0) (a .0 .1) (a .0 .2) (a .0 .3) (a .1) (a .2)
+
+    -- what holds of a failure, and of the rest wherever the check is followed so far, holds of the two one after the other
+    pub goes-then : (E : Outcome State → Type 0) (m : Matching) (r : Outcome State) (c : Program) → Goes m r → E fails
+        → ((cs : List Current) (env : List Entry) → Agrees m cs env → E (exec c (state cs env st off nst))) → E (r >>= exec c)
+    goes-then E m r c (failing e) f h = rw e f
+    goes-then E m r c (going cs env e a) f h = rw e (h cs env a)
