@@ -1,6 +1,6 @@
--- Build code that the check follows has a step everywhere. The finished terms of each open block are terms that do not depend on OFFSET and
--- NSTACK, which only rename them, and whose free variables below the block's abstractions are free in the subject: so a body makes one term,
--- and a PUSHI is Lemma 8's. A PUSHIMM stands where nothing is renamed.
+-- Build code that the check follows has a step everywhere. The finished terms of each open block do not depend on OFFSET and NSTACK, which only
+-- rename them, and each variable free in them is bound by an open LAMBDA or free in the subject. So a body makes one term under any OFFSET and
+-- NSTACK, a PUSHI is Lemma 8's, and a PUSHIMM stands where nothing is renamed.
 use mathlib.Core.Path.{_≡_, refl, sym, ap, ap₂, _∙_}
 use Prim.Native.Nat.{ℕ, zero, suc, _+_, _-_, _≤_, _<_}
 use native.Mathlib.Nat.{le-of-suc-le-suc, not-suc-le-zero}
@@ -182,7 +182,7 @@ module _ (Sub : ℕ → Type 0) where
         go (u ∷ []) [] e f g = record { term = u; free = f .0 .0; runs = g }
 
     module _ (es : List Slot) (ok : EntriesOk Sub es env) where
-      -- from blocks as the check counts them to blocks as it steps-then counts them
+      -- from blocks as the check counts them to blocks as it then counts them
       abbrev Follows : (Bool → ℕ → ℕ → List ℕ → Option (List ℕ)) → Action → Type 0
       Follows check act =
           (inside : Bool) (l nest : ℕ) (us : List Term) (B : Blocks) (hs : List ℕ) → check inside l nest (map length (us ∷ B)) ≡ some hs

@@ -4,3 +4,4 @@ pub mod Building
 pub mod Matching
 pub mod NeverStuck
 pub mod Counts
+pub mod Limits
