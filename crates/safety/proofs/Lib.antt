@@ -1,0 +1,7 @@
+pub mod FreeVariables
+pub mod Entries
+pub mod Building
+pub mod Matching
+pub mod NeverStuck
+pub mod Counts
+pub mod Limits

@@ -1,0 +1,1 @@
+// Code that passes has a step everywhere: laws only, in proofs/.
