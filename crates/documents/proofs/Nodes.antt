@@ -13,7 +13,7 @@ use Rattle.documents.specs.Terms.{Sort, one, many, Tm, Var, Sym, Meta, A
 use Rattle.documents.specs.Tables.{nodes, subterm}
 use Rattle.documents.specs.Rules.{freevars}
 use Rattle.documents.specs.Instructions.{IS, ISABST, NEXT, CHECK, SET, EQVAR, EQIMM, EQI, CELL, LAMBDA, ADBMAL, PUSHVAR, PUSHIMM, PUSHI, Instruction}
-use Rattle.documents.specs.Machine.{Current, current, Entry, entry, State, state, Outcome, done, fails, noStep, test, orFails, orNoStep, Action, argumentsOf, bodyOf, isVar, equal, placed, firsts, renaming, compares, compared, currents, withCurrent, exec, start}
+use Rattle.documents.specs.Machine.{Current, current, Entry, entry, State, state, Outcome, done, fails, noStep, test, orFails, orNoStep, Action, argumentsOf, bodyOf, isVar, equal, placed, firsts, renaming, eqi, eqimm, currents, withCurrent, exec, start}
 use Rattle.documents.specs.Passing.{isMatch}
 use Rattle.documents.proofs.Lists.{never}
 
@@ -157,15 +157,15 @@ module _ (subject : Term) where
   withEntry-numbered f none σ τ k e = never (cc)
   withEntry-numbered f (some a) σ τ k e = k a e
 
-  compares-numbered : (D : ℕ) (ps : List (ℕ × ℕ)) (a : Entry) (t : Term) (σ τ : State) → compares D ps a t σ ≡ done τ → NumberedIn σ → NumberedIn τ
-  compares-numbered D ps (entry b a) t σ τ e h = go (every (placed (firsts ps) b D) (freevars a)) e
+  eqi-numbered : (D : ℕ) (ps : List (ℕ × ℕ)) (a : Entry) (t : Term) (σ τ : State) → eqi D ps a t σ ≡ done τ → NumberedIn σ → NumberedIn τ
+  eqi-numbered D ps (entry b a) t σ τ e h = go (every (placed (firsts ps) b D) (freevars a)) e
     where
       go : (q : Bool) → cond q (test (equal (rename (renaming ps D) a) t) σ) noStep ≡ done τ → NumberedIn τ
       go true e = tested (equal (rename (renaming ps D) a) t) σ τ e h
       go false e = never (cc)
 
-  compared-numbered : (a : Entry) (t : Term) (σ τ : State) → compared a t σ ≡ done τ → NumberedIn σ → NumberedIn τ
-  compared-numbered (entry b a) t σ τ e h = tested (equal a t) σ τ e h
+  eqimm-numbered : (a : Entry) (t : Term) (σ τ : State) → eqimm a t σ ≡ done τ → NumberedIn σ → NumberedIn τ
+  eqimm-numbered (entry b a) t σ τ e h = tested (equal a t) σ τ e h
 
   -- each match instruction keeps the numbers right
   pub numbered-step : (i : Instruction) (σ τ : State) → T (isMatch i) → exec i σ ≡ done τ → NumberedIn σ → NumberedIn τ
@@ -178,9 +178,9 @@ module _ (subject : Term) where
   numbered-step SET σ τ b = withCurrent-numbered _ σ τ (λ d m t cs env st off nst e h k. same-currents (current d m t ∷ cs) (entry d t ∷ env) st off nst τ e (h, k))
   numbered-step (EQVAR x) σ τ b = withCurrent-numbered _ σ τ (λ d m t cs env st off nst e h k. tested (isVar x t) (state (current d m t ∷ cs) env st off nst) τ e (h, k))
   numbered-step (EQIMM n) σ τ b = withCurrent-numbered _ σ τ (λ d m t cs env st off nst e h k.
-      withEntry-numbered (λ a. compared a t) (getElem? env n) (state (current d m t ∷ cs) env st off nst) τ (λ a f. compared-numbered a t (state (current d m t ∷ cs) env st off nst) τ f (h, k)) e)
+      withEntry-numbered (λ a. eqimm a t) (getElem? env n) (state (current d m t ∷ cs) env st off nst) τ (λ a f. eqimm-numbered a t (state (current d m t ∷ cs) env st off nst) τ f (h, k)) e)
   numbered-step (EQI n D ps) σ τ b = withCurrent-numbered _ σ τ (λ d m t cs env st off nst e h k.
-      withEntry-numbered (λ a. compares D ps a t) (getElem? env n) (state (current d m t ∷ cs) env st off nst) τ (λ a f. compares-numbered D ps a t (state (current d m t ∷ cs) env st off nst) τ f (h, k)) e)
+      withEntry-numbered (λ a. eqi D ps a t) (getElem? env n) (state (current d m t ∷ cs) env st off nst) τ (λ a f. eqi-numbered D ps a t (state (current d m t ∷ cs) env st off nst) τ f (h, k)) e)
   numbered-step (CELL s n) σ τ b = absurd b
   numbered-step LAMBDA σ τ b = absurd b
   numbered-step ADBMAL σ τ b = absurd b

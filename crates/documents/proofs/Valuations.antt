@@ -5,8 +5,8 @@ use Prim.Native.Nat.{ℕ, zero, suc, _+_}
 use native.Mathlib.Omega.{arith}
 use mathlib.Core.List.{List, [], _∷_, _++_}
 use Rattle.documents.specs.Terms.{Sort, one, many, Tm, Var, Sym, Meta, Abst, Nil, Cons, Term, Terms, len, renameUnder, rename, lift, substUnder, subst, betas, absts}
-use Rattle.documents.specs.Rules.{Val, Valuation, Substitute, metasubst}
-use Rattle.documents.proofs.Substitution.{subst-ext, rename-ext, rename-rename, subst-rename, rename-id, renameUnders, select, betas-select}
+use Rattle.documents.specs.Rules.{Val, Valuation, Substitute, metas, metasubst}
+use Rattle.documents.proofs.Substitution.{subst-ext, rename-ext, rename-rename, subst-rename, rename-id, len-rename, renameUnders, select, betas-select}
 
 -- the bodies of a valuation
 abbrev pub bodiesOf : (v : Val) → Valuation v → Val
@@ -62,3 +62,12 @@ pub metasubst-bodies : {s : Sort} (v : Val) (h : Valuation v) (t : Tm s) → met
 metasubst-bodies v h t =
     ap (λ (w : Val). metasubst w t) (fun-ext (λ z. fun-ext (λ k. sym (rename-ext _ _ (v z k) (λ x. omega arith) ∙ rename-id (v z k)))))
     ∙ metasubst-lifted v h 0 t
+
+-- a renaming leaves the metavariables as they are
+pub metas-rename : {s : Sort} (f : ℕ → ℕ) (t : Tm s) → metas (rename f t) ≡ metas t
+metas-rename f (Var x) = refl
+metas-rename f (Sym s ts) = metas-rename f ts
+metas-rename f (Meta z ts) = ap₂ {C = List (ℕ × ℕ)} (λ (k : ℕ) l. (z, k) ∷ l) (len-rename f ts) (metas-rename f ts)
+metas-rename f (Abst t) = metas-rename (renameUnder f) t
+metas-rename f Nil = refl
+metas-rename f (Cons t ts) = ap₂ _++_ (metas-rename f t) (metas-rename f ts)

@@ -127,12 +127,13 @@ orMoved (some x) D y = x
 abbrev pub renaming : List (ℕ × ℕ) → ℕ → ℕ → ℕ
 renaming ps D y = orMoved (assoc ps y) D y
 
--- the entry renamed is the current term; EQI needs a first index for each variable
-abbrev pub compares : ℕ → List (ℕ × ℕ) → Entry → Term → State → Outcome State
-compares D ps (entry b a) t σ = cond (every (placed (firsts ps) b D) (freevars a)) (test (equal (rename (renaming ps D) a) t) σ) noStep
+-- EQI: the entry, renamed, is the current term; it needs a first index for each variable
+abbrev pub eqi : ℕ → List (ℕ × ℕ) → Entry → Term → State → Outcome State
+eqi D ps (entry b a) t σ = cond (every (placed (firsts ps) b D) (freevars a)) (test (equal (rename (renaming ps D) a) t) σ) noStep
 
-abbrev pub compared : Entry → Term → State → Outcome State
-compared (entry b a) t σ = test (equal a t) σ
+-- EQIMM: the entry is the current term
+abbrev pub eqimm : Entry → Term → State → Outcome State
+eqimm (entry b a) t σ = test (equal a t) σ
 
 -- terms ts, under d abstractions, the first at node m, before the current terms cs
 abbrev pub currents : ℕ → ℕ → Terms → List Current → List Current
@@ -197,12 +198,13 @@ push run D n (Abst t) σ = push run D (suc n) t σ >>= wrap
 push run D n Nil σ = done σ
 push run D n (Cons t ts) σ = push run D n t σ >>= push run D n ts
 
--- a PUSHI needs a key for each variable
-abbrev pub pushes : (ℕ → Option Action) → List ℕ → ℕ → Entry → Action
-pushes run ks D (entry b a) σ = cond (every (placed ks b D) (freevars a)) (push run D 0 a σ) noStep
+-- PUSHI: it needs a key for each variable
+abbrev pub pushi : (ℕ → Option Action) → List ℕ → ℕ → Entry → Action
+pushi run ks D (entry b a) σ = cond (every (placed ks b D) (freevars a)) (push run D 0 a σ) noStep
 
-abbrev pub pushEntry : Entry → State → State
-pushEntry (entry b a) σ = pushed a σ
+-- PUSHIMM
+abbrev pub pushimm : Entry → State → State
+pushimm (entry b a) σ = pushed a σ
 
 abbrev pub withEntry : ℕ → (Entry → Action) → Action
 withEntry e f (state cs env st off nst) = orNoStep (getElem? env e) (λ a. f a (state cs env st off nst))
@@ -225,15 +227,15 @@ exec (CHECK vs) = withCurrent (λ d m t cs env st off nst.
 exec SET = withCurrent (λ d m t cs env st off nst. done (state (current d m t ∷ cs) (entry d t ∷ env) st off nst))
 exec (EQVAR x) = withCurrent (λ d m t cs env st off nst. test (isVar x t) (state (current d m t ∷ cs) env st off nst))
 exec (EQIMM e) = withCurrent (λ d m t cs env st off nst.
-    withEntry e (λ a. compared a t) (state (current d m t ∷ cs) env st off nst))
+    withEntry e (λ a. eqimm a t) (state (current d m t ∷ cs) env st off nst))
 exec (EQI e D ps) = withCurrent (λ d m t cs env st off nst.
-    withEntry e (λ a. compares D ps a t) (state (current d m t ∷ cs) env st off nst))
+    withEntry e (λ a. eqi D ps a t) (state (current d m t ∷ cs) env st off nst))
 exec (CELL s n) = cell (Sym s) n
 exec LAMBDA = openBlock
 exec ADBMAL = closeBlock
 exec (PUSHVAR x) = pushVar x
-exec (PUSHIMM e) = withEntry e (λ a σ. done (pushEntry a σ))
-exec (PUSHI e D a) = withEntry e (pushes (exec a) (keys a) D)
+exec (PUSHIMM e) = withEntry e (λ a σ. done (pushimm a σ))
+exec (PUSHI e D a) = withEntry e (pushi (exec a) (keys a) D)
 exec End = λ σ. done σ
 exec (i ▸ c) = λ σ. exec i σ >>= exec c
 exec None = λ y. none

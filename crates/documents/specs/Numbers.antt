@@ -73,7 +73,7 @@ subjectIn ws =
 pub data Rule : Type 0 where
   rule : Term → Term → Rule
 
--- An accepted rule: left 2, 1, 3; right 2, 1, 3; then 5, 6, 7, 8, 9. (Law `ruleIn-crsRule`: it is one of 004's.)
+-- An accepted rule: left 2, 1, 3; right 2, 1, 3; then 5, 6, 7, 8, 9. (Laws `ruleIn-accepted`, `accepted-ruleIn`: within the limits it is one of 004's.)
 unfoldable pub ruleIn : List ℕ → List ℕ → Answer Rule
 ruleIn left right =
     with (tableIn sideLimit left) (λ l.

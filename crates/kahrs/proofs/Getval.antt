@@ -13,8 +13,8 @@ use Rattle.documents.specs.Machine.{Entry, entry}
 use Rattle.documents.specs.Translation.{Row, row, Located, lookup}
 use Rattle.documents.proofs.Lists.{off, of-and, and-of}
 use Rattle.documents.proofs.Substitution.{rename-ext, rename-rename, rename-id}
+use Rattle.documents.proofs.FreeVariables.{free-renamed}
 use Rattle.kahrs.proofs.RightSide.{place, covered, Covers}
-use Rattle.kahrs.proofs.Renaming.{AllFree-rename}
 use Rattle.kahrs.proofs.Places.{argument, eqb-of, place-argument, argument-covered}
 use Rattle.kahrs.proofs.Locations.{Fresh}
 use Rattle.kahrs.proofs.LeftSide.{Parallel, Looked, absent, present, looked, parallel-at, Instantiates, Gets}
@@ -39,7 +39,7 @@ covers-of val rows env z k o e (present {i = i} {b = b} {l = l} a g h r) n = rec
   here = h;
   arity = r .1 .3;
   low = r .1 .2;
-  inside = rw (r .0) (AllFree-rename (λ y. T (covered l b y)) (argument b l) (val z k) (argument-covered b l));
+  inside = rw (r .0) (free-renamed (λ y. T (covered l b y)) (argument b l) (val z k) (argument-covered b l));
   value = instantiates-gets val z k b l a r;
 }
 

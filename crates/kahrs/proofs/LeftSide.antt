@@ -16,14 +16,13 @@ use Rattle.documents.specs.Terms.{Sort, one, many, Tm, Var, Sym, Meta, Abst, Ni
 use Rattle.documents.specs.Tables.{nodes}
 use Rattle.documents.specs.Rules.{Val, freevars}
 use Rattle.documents.specs.Instructions.{IS, ISABST, _▸_, Program}
-use Rattle.documents.specs.Machine.{Current, current, Entry, entry, State, state, Outcome, done, fails, _>>=_, orFails, test, Action, isVar, equal, placed, renaming, compares, currents, exec}
+use Rattle.documents.specs.Machine.{Current, current, Entry, entry, State, state, Outcome, done, fails, _>>=_, orFails, test, Action, isVar, equal, placed, renaming, eqi, currents, exec}
 use Rattle.documents.specs.Translation.{Row, row, Located, located, further, lookup, enter, update, offset}
 use Rattle.documents.proofs.Lists.{never, on, case}
 use Rattle.documents.proofs.Substitution.{rename-ext, rename-rename, rename-id}
 use Rattle.documents.proofs.Valuations.{instance, len-instance}
-use Rattle.documents.proofs.FreeVariables.{AllFree, AllFree-map, free-of-every, every-of-free}
+use Rattle.documents.proofs.FreeVariables.{AllFree, AllFree-map, free-of-every, every-of-free, free-renamed, rename-agree}
 use Rattle.kahrs.proofs.RightSide.{exec-⧺, place, covered, placed-of-covered}
-use Rattle.kahrs.proofs.Renaming.{AllFree-rename, rename-agree}
 use Rattle.kahrs.proofs.Equal.{equal-refl, of-isVar, of-equal}
 use Rattle.kahrs.proofs.Places.{argument, Distinct, Under, eqb-both, argument-place, argument-covered, renaming-argument, argument-renaming, firsts-pairlists, unlisted-covered}
 use Rattle.kahrs.proofs.Simple.{vars, len-vars, unvar-vars, update-arguments, instance-meta, Simple}
@@ -45,10 +44,10 @@ covered-of-spares : (n : ℕ) (l : List ℕ) (a : Term) → T (spares n l a) →
 covered-of-spares n l a h = AllFree-map _ _ a (λ y k. rw (unlisted-covered n l y) at k) (free-of-every _ 0 a h)
 
 -- an EQI has its first indices, and compares
-compares-is : (n b : ℕ) (l′ l : List ℕ) (a u : Term) (σ : State) → length l′ ≡ length l → b ≤ 64 → Covered l′ b a
-    → compares (offset n b) (pairlists l′ l) (entry b a) u σ ≡ test (equal (rename (renaming (pairlists l′ l) (offset n b)) a) u) σ
-compares-is n b l′ l a u σ e lo h =
-    let p : T (every (placed l′ b (offset n b)) (freevars a)) = every-of-free _ 0 a (AllFree-map _ _ a (λ y. placed-of-covered l′ b n y lo) h) in
+eqi-is : (n b : ℕ) (l′ l : List ℕ) (a u : Term) (σ : State) → length l′ ≡ length l → b ≤ 64 → Covered l′ b a
+    → eqi (offset n b) (pairlists l′ l) (entry b a) u σ ≡ test (equal (rename (renaming (pairlists l′ l) (offset n b)) a) u) σ
+eqi-is n b l′ l a u σ e lo h =
+    let p : T (every (placed l′ b (offset n b)) (freevars a)) = every-of-free _ 0 a (AllFree-map _ _ a (λ y. placed-of-covered l′ b (offset n b) n y (omega arith)) h) in
     rw (firsts-pairlists l′ l e, on (every (placed l′ b (offset n b)) (freevars a)) p)
 
 -- ---- Rows and entries, side by side
@@ -116,16 +115,16 @@ module _ (val : Val) (st : List Term) (off : ℕ) (nst : List ℕ) where
       → Matches (occurrence n (vars l) o) (current n m (rename (argument n l) (val z (length l))) ∷ cs) env cs (enter o (row z (length l) n l) rows)
   matches-meta n m z l lo d u rows env o p absent cs =
       let a = rename (argument n l) (val z (length l)) in
-      let h : Covered l n a = AllFree-rename _ (argument n l) (val z (length l)) (argument-covered n l) in
+      let h : Covered l n a = free-renamed _ (argument n l) (val z (length l)) (argument-covered n l) in
       (entry n a ∷ env, rw (unvar-vars l, spares-covered n l a h), ((refl, (refl, (d, u, lo, refl))), p))
   matches-meta n m z l lo d u rows env o p (present {b = b} {l = l′} a g e r) cs =
       let β = val z (length l) in
       let f = renaming (pairlists l′ l) (offset n b) in
       let k : rename f (rename (argument b l′) β) ≡ rename (argument n l) β =
       rename-rename _ _ β ∙ rename-ext _ _ β (λ x. renaming-argument b n l′ l x (r .1 .3) (r .1 .2) (r .1 .0) (r .1 .1)) in
-      let h : Covered l′ b (rename (argument b l′) β) = AllFree-rename _ (argument b l′) β (argument-covered b l′) in
+      let h : Covered l′ b (rename (argument b l′) β) = free-renamed _ (argument b l′) β (argument-covered b l′) in
       let t = rename (argument n l) β in
-      let c = compares-is n b l′ l (rename (argument b l′) β) t (state (current n m t ∷ cs) env st off nst) (r .1 .3) (r .1 .2) h in
+      let c = eqi-is n b l′ l (rename (argument b l′) β) t (state (current n m t ∷ cs) env st off nst) (r .1 .3) (r .1 .2) h in
       (env, rw (e, unvar-vars l, r .0, c, k, on (equal t t) (equal-refl t)), p)
 
   -- Lemma 7
@@ -214,7 +213,7 @@ module _ (st : List Term) (off : ℕ) (nst : List ℕ) where
         ),
       ))
   sound-meta n m z l lo rows env o p (present {b = b} {l = l′} a g e r) u cs =
-      rw (e, unvar-vars l, compares-is n b l′ l a u (state (current n m u ∷ cs) env st off nst) (r .2) (r .1) (r .0))
+      rw (e, unvar-vars l, eqi-is n b l′ l a u (state (current n m u ∷ cs) env st off nst) (r .2) (r .1) (r .0))
       (ends-test (equal (rename (renaming (pairlists l′ l) (offset n b)) a) u) _ _ cs _ λ t.
       inr (
         env,

@@ -1,5 +1,4 @@
 pub mod RightSide
-pub mod Renaming
 pub mod Equal
 pub mod Places
 pub mod Simple

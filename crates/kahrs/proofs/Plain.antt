@@ -8,9 +8,8 @@ use Rattle.documents.specs.Terms.{Sort, Tm, Var, Sym, Meta, Abst, Nil, Cons, Te
 use Rattle.documents.specs.Rules.{Val, Valuation, metas, metasubst}
 use Rattle.documents.proofs.Lists.{never}
 use Rattle.documents.proofs.Substitution.{select}
-use Rattle.documents.proofs.Valuations.{bodiesOf, instance, metasubst-bodies}
+use Rattle.documents.proofs.Valuations.{bodiesOf, instance, metasubst-bodies, metas-rename}
 use Rattle.kahrs.proofs.RightSide.{AllMetas}
-use Rattle.kahrs.proofs.Renaming.{metas-rename}
 use Rattle.kahrs.proofs.Places.{argument}
 use Rattle.kahrs.proofs.Simple.{vars, len-vars, instance-meta, Simple}
 

@@ -9,11 +9,12 @@ use mathlib.Core.Option.{Option, none, some}
 use mathlib.Core.List.{List, [], _∷_, _++_, map}
 use lib.Dec.{T, eqb, leb, leb→le, le→leb}
 use lib.ListN.{length, getElem?, length-map}
+use Rattle.documents.specs.Limits.{dShift}
 use Rattle.documents.specs.Lists.{every, member}
 use Rattle.documents.specs.Terms.{Sort, one, many, Tm, Var, Sym, Meta, Abst, Nil, Cons, Term, Terms, len, renameUnder, rename, lift, substUnder, subst}
 use Rattle.documents.specs.Rules.{Val, freevars}
 use Rattle.documents.specs.Instructions.{Code, CELL, LAMBDA, ADBMAL, PUSHVAR, PUSHI, End, _▸_, None, Body, Program, Bodies, keys}
-use Rattle.documents.specs.Machine.{Current, Entry, entry, State, state, Outcome, done, fails, noStep, _>>=_, Action, placed, pushFree, push, pushes, pushVar, exec}
+use Rattle.documents.specs.Machine.{Current, Entry, entry, State, state, Outcome, done, fails, noStep, _>>=_, Action, placed, pushFree, push, pushi, pushVar, exec}
 use Rattle.documents.specs.Translation.{Row, row, Located, located, lookup, _⧺_, offset, Built, joined, keyed, rhsMeta, rhs}
 use Rattle.documents.proofs.Substitution.{rename-ext, rename-rename, subst-rename, rename-subst, rename-id, len-rename, select}
 use Rattle.documents.proofs.Valuations.{instance, len-instance}
@@ -78,14 +79,14 @@ place (a ∷ l) b y = cond (eqb a y) 0 (suc (place l b y))
 abbrev pub covered : List ℕ → ℕ → ℕ → Bool
 covered l b y = member l y || leb b y
 
-pub placed-of-covered : (l : List ℕ) (b n y : ℕ) → b ≤ 64 → T (covered l b y) → T (placed l b (offset n b) y)
-placed-of-covered l b n y lo h = go (member l y) h
+pub placed-of-covered : (ks : List ℕ) (b D n y : ℕ) → D + b ≡ n + dShift → T (covered ks b y) → T (placed ks b D y)
+placed-of-covered ks b D n y e h = go (member ks y) h
   where
-    go : (q : Bool) → T (q || leb b y) → T (q || (leb b y && leb 64 (y + offset n b)))
+    go : (q : Bool) → T (q || leb b y) → T (q || (leb b y && leb dShift (y + D)))
     go true h = tt
     go false h =
         let k = leb→le b y h in
-        and-of (leb b y) (leb 64 (y + offset n b)) h (le→leb 64 (y + offset n b) (omega arith))
+        and-of (leb b y) (leb dShift (y + D)) h (le→leb dShift (y + D) (omega arith))
 
 -- ---- Bodies
 
@@ -164,14 +165,14 @@ module _ (cs : List Current) (env : List Entry) where
   length-runs n (c ∷ ds) (Cons u us) r = ap suc (length-runs n ds us (r .1))
 
   -- a PUSHI of the entry a: the substitution that 004's Lemma 6 describes, moved by OFFSET and NSTACK
-  pub pushes-is : (n b off : ℕ) (nst l : List ℕ) (ds : List Program) (us : Terms) (a : Term) (st : List Term)
+  pub pushi-is : (n b off : ℕ) (nst l : List ℕ) (ds : List Program) (us : Terms) (a : Term) (st : List Term)
       → length nst ≡ n → b ≤ 64 → RunsAll cs env n ds us → length l ≡ len us → AllFree (λ y. T (covered l b y)) a
-      → pushes (exec (keyed l ds)) (keys (keyed l ds)) (offset n b) (entry b a) (state cs env st off nst)
+      → pushi (exec (keyed l ds)) (keys (keyed l ds)) (offset n b) (entry b a) (state cs env st off nst)
       ≡ done (state cs env (rename (offsetOf off nst) (subst (select n us) (rename (place l b) a)) ∷ st) off nst)
-  pushes-is n b off nst l ds us a st el lo r e h =
+  pushi-is n b off nst l ds us a st el lo r e h =
       let ks = keys-keyed l ds (e ∙ sym (length-runs n ds us r)) in
       let all : T (every (placed l b (offset n b)) (freevars a)) =
-      every-of-free (placed l b (offset n b)) 0 a (AllFree-map _ _ a (λ y. placed-of-covered l b n y lo) h)
+      every-of-free (placed l b (offset n b)) 0 a (AllFree-map _ _ a (λ y. placed-of-covered l b (offset n b) n y (omega arith)) h)
       in
       rw (ks, on (every (placed l b (offset n b)) (freevars a)) all)
       (push-is (exec (keyed l ds)) (offset n b) cs env off nst (λ y. rename (offsetOf off nst) (select n us (place l b y))) 0 a st
@@ -214,7 +215,7 @@ module _ (cs : List Current) (env : List Entry) (tab : List Row) (val : Val) whe
       → Runs cs env n (rhsMeta n ds (lookup z (len ts) tab)) (subst (select n us) (val z (len ts)))
   meta-runs n z ts ds us c e r st off nst el =
       rw (c .found, c .value, c .here)
-      (ap (λ r. r >>= (λ σ. done σ)) (pushes-is cs env n (c .b) off nst (c .arguments) ds us (c .term) st el (c .low) r (c .arity ∙ sym e) (c .inside)))
+      (ap (λ r. r >>= (λ σ. done σ)) (pushi-is cs env n (c .b) off nst (c .arguments) ds us (c .term) st el (c .low) r (c .arity ∙ sym e) (c .inside)))
 
   pub rhs-runs : {s : Sort} (n : ℕ) (t : Tm s) → Below n t → AllMetas (Covers env tab val) t → RunsBuilt cs env s n (rhs tab n t) (instance n val t)
   rhs-runs n (Var x) h c = λ st off nst e. ap (λ r. r >>= (λ σ. done σ)) (pushVar-is cs env x st off nst (omega arith))

@@ -15,14 +15,13 @@ use Rattle.documents.specs.Limits.{argumentLimit, indexLimit, dShift}
 use Rattle.documents.specs.Lists.{member, need}
 use Rattle.documents.specs.Terms.{Var, Sym, Abst, Nil, Cons, Term, Terms, len, rename, subst}
 use Rattle.documents.specs.Instructions.{Piece, instruction, program, bodies, Code, IS, ISABST, NEXT, CHECK, SET, EQVAR, EQIMM, EQI, CELL, LAMBDA, ADBMAL, PUSHVAR, PUSHIMM, PUSHI, End, _▸_, None, Body, Instruction, Program, Bodies, bodyCount, keys}
-use Rattle.documents.specs.Machine.{Current, Entry, entry, State, state, Outcome, done, _>>=_, Action, split, pushes, exec}
+use Rattle.documents.specs.Machine.{Current, Entry, entry, State, state, Outcome, done, _>>=_, Action, split, pushi, exec}
 use Rattle.documents.specs.Translation.{offset, keyed}
 use Rattle.documents.specs.Passing.{openLimit, pairLimit, nestLimit, allBelow, Slot, covers, blocks, oneMore, oneTerm, build}
 use Rattle.documents.proofs.Lists.{never, on, T-of, of-and, case, needed, andThen-is}
 use Rattle.documents.proofs.Substitution.{rename-ext, rename-id, subst-rename, select}
-use Rattle.documents.proofs.FreeVariables.{unders, AllFree, AllFree-map}
-use Rattle.kahrs.proofs.RightSide.{offsetOf, pushVar-is, place, covered, RunsAll, pushes-is}
-use Rattle.safety.proofs.FreeVariables.{free-both, free-subst, unders-below, unders-past, past-unders}
+use Rattle.documents.proofs.FreeVariables.{unders, AllFree, AllFree-map, free-both, free-subst, unders-below, unders-past, past-unders}
+use Rattle.kahrs.proofs.RightSide.{offsetOf, pushVar-is, place, covered, RunsAll, pushi-is}
 use Rattle.safety.proofs.Entries.{EntriesOk, Named, named, covered-of-covers}
 
 -- ---- Blocks: the finished terms of each open block, the innermost first, as they are before OFFSET and NSTACK rename them
@@ -191,7 +190,7 @@ module _ (Sub : ℕ → Type 0) where
       abbrev pub Claim : (p : Piece) → Code p → Type 0
       Claim instruction i = Follows (λ inside l nest. build es inside l nest i) (exec i)
       Claim program c = Follows (λ inside l nest. build es inside l nest c) (exec c)
-      Claim bodies a = (inside : Bool) (l nest b : ℕ) → T (build es inside l nest a b) → Made l a
+      Claim bodies a = (inside : Bool) (l nest : ℕ) → T (build es inside l nest a) → Made l a
 
       CELL-steps : (s n : ℕ) → Claim instruction (CELL s n)
       CELL-steps s n inside l nest us B hs e f =
@@ -264,15 +263,15 @@ module _ (Sub : ℕ → Type 0) where
           let m = map length (us ∷ B) in
           let asks : ℕ → List ℕ → Option (List ℕ) = λ b g.
           need (eqb (D + b) (l + blocks m + dShift)) (need (leb (bodyCount a) pairLimit) (need (allBelow b (keys a)) (need (covers b g (keys a))
-          (need (build es true (l + blocks m) (nest + blocks m) a b) (oneMore m))))) in
+          (need (build es true (l + blocks m) (nest + blocks m) a) (oneMore m))))) in
           let r = named Sub es env e asks hs ok w in
           let b = r .b in
           let q₁ = needed (eqb (D + b) (l + blocks m + dShift)) _ hs (r .says) in
           let q₂ = needed (leb (bodyCount a) pairLimit) _ hs (q₁ .1) in
           let q₃ = needed (allBelow b (keys a)) _ hs (q₂ .1) in
           let q₄ = needed (covers b (r .guard) (keys a)) _ hs (q₃ .1) in
-          let q₅ = needed (build es true (l + blocks m) (nest + blocks m) a b) _ hs (q₄ .1) in
-          pushed (made true (l + blocks m) (nest + blocks m) b (T-of _ (q₅ .0))) (level-is l us B) r
+          let q₅ = needed (build es true (l + blocks m) (nest + blocks m) a) _ hs (q₄ .1) in
+          pushed (made true (l + blocks m) (nest + blocks m) (T-of _ (q₅ .0))) (level-is l us B) r
           (eqb-true (D + b) (l + blocks m + dShift) (q₁ .0)) (T-of (covers b (r .guard) (keys a)) (q₄ .0)) (counts-are (length us + 1) _ _ hs (q₅ .1) (omega arith))
         where
           pushed : {n : ℕ} {A : ℕ → List ℕ → Option (List ℕ)} → Made n a → n ≡ level B l → (r : Named Sub env e A hs) → D + r .b ≡ n + dShift
@@ -294,8 +293,8 @@ module _ (Sub : ℕ → Type 0) where
                 good = ((rw (← en) z, f .0), f .1);
                 goes = λ st off nst g el.
                     rw (r .here)
-                    (ap₂ (λ (y : Bodies) (m : ℕ). pushes (exec y) (keys y) m (entry b x) (state cs env (laid off nst (us ∷ B) st) off (opened B nst))) (keyed-programs a) dd
-                    ∙ pushes-is cs env n b off (opened B nst) (keys a) (programs a) (p .terms) x _ (length-opened B nst l el ∙ sym en) lo (p .runs) (p .arity) h);
+                    (ap₂ (λ (y : Bodies) (m : ℕ). pushi (exec y) (keys y) m (entry b x) (state cs env (laid off nst (us ∷ B) st) off (opened B nst))) (keyed-programs a) dd
+                    ∙ pushi-is cs env n b off (opened B nst) (keys a) (programs a) (p .terms) x _ (length-opened B nst l el ∙ sym en) lo (p .runs) (p .arity) h);
               }
 
       steps-then : (i : Instruction) (c : Program) (inside : Bool) (l : ℕ) (us : List Term) (B : Blocks) (hs ks : List ℕ)
@@ -331,12 +330,12 @@ module _ (Sub : ℕ → Type 0) where
           let q = andThen-is (build es inside l nest i (map length (us ∷ B))) _ hs e in
           let s = builds-as-checked i inside l nest us B (q .0) (q .1) f in
           steps-then i c inside l us B (q .0) hs s (builds-as-checked c inside l nest (s .top) (s .around) hs (rw (s .counted) at (q .2)) (s .good))
-      builds-as-checked None = λ inside l nest b t. record { terms = Nil; arity = refl; runs = tt; inside = tt }
-      builds-as-checked (Body k c a) = λ inside l nest b t.
-          let q = of-and (ltb nest nestLimit && oneTerm (build es true l (nest + 1) c (0 ∷ []))) (build es inside l nest a b) t in
+      builds-as-checked None = λ inside l nest t. record { terms = Nil; arity = refl; runs = tt; inside = tt }
+      builds-as-checked (Body k c a) = λ inside l nest t.
+          let q = of-and (ltb nest nestLimit && oneTerm (build es true l (nest + 1) c (0 ∷ []))) (build es inside l nest a) t in
           let p = of-and (ltb nest nestLimit) (oneTerm (build es true l (nest + 1) c (0 ∷ []))) (q .0) in
           let m = makes true l c (builds-as-checked c true l (nest + 1) [] [] (1 ∷ []) (one-term _ (p .1)) (tt, tt)) in
-          let r = builds-as-checked a inside l nest b (q .1) in
+          let r = builds-as-checked a inside l nest (q .1) in
           record {
             terms = Cons (m .term) (r .terms);
             arity = ap suc (r .arity);

@@ -14,8 +14,8 @@ use Rattle.documents.specs.Instructions.{End, _▸_, Program}
 use Rattle.documents.specs.Machine.{Current, current, Entry, State, state, Outcome, done, fails, exec, run, first}
 use Rattle.documents.specs.Passing.{Slot, build, Matching, matching, matchStep, isMatch, builds, andThenHolds, parts, obeys}
 use Rattle.documents.proofs.Lists.{never, case, andThen-is}
+use Rattle.documents.proofs.FreeVariables.{free-all}
 use Rattle.kahrs.proofs.RightSide.{offsetOf}
-use Rattle.safety.proofs.FreeVariables.{free-all}
 use Rattle.safety.proofs.Entries.{entries-length}
 use Rattle.safety.proofs.Building.{Blocks, laid, opened, one-term, builds-as-checked}
 use Rattle.safety.proofs.Matching.{currents-length, Agrees, agrees-at-start, matches-as-checked, goes-then}

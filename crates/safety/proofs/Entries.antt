@@ -18,7 +18,7 @@ use Rattle.documents.specs.Machine.{Entry, entry, placed}
 use Rattle.documents.specs.Passing.{openLimit, Slot, slot, withSlot, covers}
 use Rattle.documents.proofs.Lists.{never, of-and, and-of, every-append}
 use Rattle.documents.proofs.FreeVariables.{unders, AllFree, AllFree-map, every-of-free}
-use Rattle.kahrs.proofs.RightSide.{covered}
+use Rattle.kahrs.proofs.RightSide.{covered, placed-of-covered}
 
 -- ---- Keys that cover
 
@@ -52,15 +52,6 @@ covered-of-covers b g ks y c n = or-of (member ks y) (leb b y) (go (key-or-past 
     go : T (member ks y) ⊎ (b ≤ y) → T (member ks y) ⊎ T (leb b y)
     go (inl m) = inl m
     go (inr h) = inr (le→leb b y h)
-
-placed-of-covered : (ks : List ℕ) (b D n y : ℕ) → D + b ≡ n + dShift → T (covered ks b y) → T (placed ks b D y)
-placed-of-covered ks b D n y e h = go (member ks y) h
-  where
-    go : (q : Bool) → T (q || leb b y) → T (q || (leb b y && leb dShift (y + D)))
-    go true h = tt
-    go false h =
-        let k = leb→le b y h in
-        and-of (leb b y) (leb dShift (y + D)) h (le→leb dShift (y + D) (omega arith))
 
 -- keys that cover have a place for each free variable of a guarded entry
 pub all-placed : (ks g : List ℕ) (b D n : ℕ) (a : Term) → D + b ≡ n + dShift → T (covers b g ks) → AllFree (Outside g) a

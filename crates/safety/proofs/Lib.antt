@@ -1,4 +1,3 @@
-pub mod FreeVariables
 pub mod Entries
 pub mod Building
 pub mod Matching

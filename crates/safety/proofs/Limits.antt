@@ -144,7 +144,7 @@ step-nested es inside l nest (PUSHI n D a) hs ks e h =
     let r = slot-there (getElem? es n) _ ks e in
     let b = r .0 in
     more-nested l nest hs ks
-    (needed (build es true (l + blocks hs) (nest + blocks hs) a b) _ ks (needed (covers b (r .1) (keys a)) _ ks (needed (allBelow b (keys a)) _ ks
+    (needed (build es true (l + blocks hs) (nest + blocks hs) a) _ ks (needed (covers b (r .1) (keys a)) _ ks (needed (allBelow b (keys a)) _ ks
     (needed (leb (bodyCount a) pairLimit) _ ks (needed (eqb (D + b) (l + blocks hs + dShift)) _ ks (r .2) .1) .1) .1) .1) .1) h
 
 -- at most 63 open LAMBDAs, and 64 blocks and bodies, wherever that was so to begin with

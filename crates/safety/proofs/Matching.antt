@@ -19,8 +19,7 @@ use Rattle.documents.specs.Instructions.{IS, ISABST, NEXT, CHECK, SET, EQVAR, E
 use Rattle.documents.specs.Machine.{Current, current, Entry, State, state, Outcome, done, fails, _>>=_, test, orFails, argumentsOf, bodyOf, isVar, equal, placed, firsts, renaming, currents, exec}
 use Rattle.documents.specs.Passing.{currentLimit, openLimit, entryLimit, checkLimit, pairLimit, Slot, covers, seconds, allBelow, Matching, matching, times, matchTop, matchStep}
 use Rattle.documents.proofs.Lists.{never, on, T-of, of-and, needed}
-use Rattle.documents.proofs.FreeVariables.{unders, AllFree, free-of-every}
-use Rattle.safety.proofs.FreeVariables.{free-all}
+use Rattle.documents.proofs.FreeVariables.{unders, AllFree, free-of-every, free-all}
 use Rattle.safety.proofs.Entries.{Outside, EntriesOk, named, all-placed}
 
 module _ (Sub : ℕ → Type 0) where

@@ -18,8 +18,7 @@ use Rattle.documents.specs.Machine.{Current, current, Entry, State, state, Outc
 use Rattle.documents.specs.Passing.{Matching, matching, matchStep, isMatch, builds, andThenHolds, parts, obeys, passes}
 use Rattle.documents.proofs.Lists.{case, of-and}
 use Rattle.documents.proofs.Substitution.{rename-ext, rename-id}
-use Rattle.documents.proofs.FreeVariables.{AllFree, every-of-free}
-use Rattle.safety.proofs.FreeVariables.{free-in-itself}
+use Rattle.documents.proofs.FreeVariables.{AllFree, every-of-free, free-in-itself}
 use Rattle.safety.proofs.Building.{makes-one-term}
 use Rattle.safety.proofs.Matching.{Agrees, agrees-at-start, matches-as-checked, goes-then}
 
