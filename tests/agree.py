@@ -162,7 +162,7 @@ def main():
                               env={**os.environ, "RT_CUT": "400"})
         if done.returncode != 0:
             print(done.stdout)
-            sys.exit(f"agree: the definitions differ from the second implementation in one of {len(vectors)} vectors (seed {seed})")
+            sys.exit("agree: not shown: 'expected type' above names vectors that differ, 'step limit' such as compute too long (lower MOST)")
     print(f"agree: the definitions and the second implementation agree on {len(vectors)} of {count} vectors (seed {seed})")
 
 
