@@ -1,0 +1,4 @@
+pub mod Unlisted
+pub mod WordCount
+pub mod Rows
+pub mod MatchPart
