@@ -2,3 +2,5 @@ pub mod Unlisted
 pub mod WordCount
 pub mod Rows
 pub mod MatchPart
+pub mod BuildPart
+pub mod Passes

@@ -1,27 +1,24 @@
 -- The match part of compiled code passes. Code is followed with the rest d of the code behind it: the code of a term takes the term's depths off
 -- the current terms, and leaves the rows made so far as entries. The current terms are never more than the nodes still to come.
-use mathlib.Core.Path.{_≡_, refl, sym, ap, _∙_, subst as transport}
+use mathlib.Core.Path.{_≡_, refl, ap, _∙_}
 use Prim.Native.Nat.{ℕ, zero, suc, _+_, _≤_, _<_}
 use native.Mathlib.Omega.{arith}
-use mathlib.Core.Bool.{Bool, true, false}
-use mathlib.Core.Option.{Option, none, some}
-use mathlib.Core.List.{List, [], _∷_, _++_}
-use lib.Dec.{T, leb, ltb}
-use lib.ListN.{length, getElem?}
+use mathlib.Core.Option.{Option}
+use mathlib.Core.List.{List, [], _∷_}
+use lib.Dec.{T}
+use lib.ListN.{length}
 use borrow.Author.Tests.{le-leb, lt-ltb, eq-eqb}
 use Rattle.documents.specs.Limits.{argumentLimit, indexLimit, dShift}
 use Rattle.documents.specs.Lists.{pairlists}
-use Rattle.documents.specs.Terms.{Sort, one, many, Tm, Var, Sym, Meta, Abst, Nil, Cons, Term, Terms, len}
+use Rattle.documents.specs.Terms.{Sort, one, many, Tm, Var, Sym, Meta, Abst, Nil, Cons, len}
 use Rattle.documents.specs.Tables.{Fits, nodes}
 use Rattle.documents.specs.Instructions.{End, _▸_, Program}
-use Rattle.documents.specs.Machine.{firsts}
-use Rattle.documents.specs.Translation.{Row, row, Located, located, lookup, unvar, enter, update, _⧺_, offset, bvset}
-use Rattle.documents.specs.Passing.{currentLimit, openLimit, entryLimit, checkLimit, pairLimit, Slot, slot, covers, seconds, allBelow, Matching, matching, times, parts}
+use Rattle.documents.specs.Translation.{Row, row, Located, lookup, unvar, enter, update, _⧺_, offset}
+use Rattle.documents.specs.Passing.{currentLimit, openLimit, entryLimit, checkLimit, pairLimit, covers, seconds, allBelow, matching, times, parts}
 use Rattle.documents.proofs.Lists.{on}
-use Rattle.kahrs.proofs.Places.{Distinct, Under, firsts-pairlists}
+use Rattle.kahrs.proofs.Places.{Under, firsts-pairlists}
 use Rattle.kahrs.proofs.Simple.{vars, len-vars, unvar-vars, Simple, update-arguments}
 use Rattle.kahrs.proofs.Locations.{occurrence, lhsFrom}
-use Rattle.kahrs.proofs.LeftSide.{RowGood}
 use Rattle.compiled.proofs.Unlisted.{unlisted, length-unlisted, unlisted-below, unlisted-covers, under-below}
 use Rattle.compiled.proofs.WordCount.{len-nodes}
 use Rattle.compiled.proofs.Rows.{slots, length-slots, length-update, RowsGood, update-good, Found, absent, present, found}
@@ -93,8 +90,12 @@ left-passes n (Sym s ts) rows d ds lo h f p c e m =
     rw (le-leb s indexLimit (f .0), le-leb (len ts) argumentLimit (f .1), le-leb (length ds + len ts) currentLimit (omega arith))
     (left-passes n ts rows d ds lo h (f .2) p (omega arith) e m)
 left-passes n (Meta z ts) rows d ds lo h f p c e m =
-    let w = update-arguments n ts (h .0) (h .1) in
-    ?
+    let l = h .0 in
+    let w = update-arguments n ts l (h .1) (enter (lookup z (len ts) rows) (row z (len ts) n (unvar ts)) rows) in
+    let k = ap len (h .1) ∙ len-vars l in
+    rw (h .1, len-vars l)
+    (occurrence-passes n z l rows (lookup z (length l) rows) d ds lo (h .3) (omega (arith, f .1)) (rw (w, h .1, unvar-vars l, len-vars l) at e)
+    (found z (length l) rows p) (rw (w, h .1, unvar-vars l, len-vars l) at m))
 left-passes n (Abst t) rows d ds lo h f p c e m =
     let w : n + 1 ≡ suc n = omega arith in
     rw (lt-ltb n openLimit (h .0), w) (left-passes (suc n) t rows d ds (omega arith) (h .1) f p (omega arith) e m)

@@ -1,18 +1,18 @@
 -- The rows of a symbol table as the entries of the check: a row's b is an entry's depth, and the indices below b that are not among the row's
 -- arguments are its guard. Rows that a simple left side makes are good, so what a lookup finds is an entry that its arguments cover.
 use mathlib.Core.Path.{_≡_, refl, sym, ap, _∙_}
-use Prim.Native.Nat.{ℕ, zero, suc, _+_, _≤_, _<_}
+use Prim.Native.Nat.{ℕ, suc, _≤_, _<_}
 use native.Mathlib.Omega.{arith}
-use mathlib.Core.Bool.{Bool, true, false, _&&_, cond}
+use mathlib.Core.Bool.{_&&_, cond}
 use mathlib.Core.Option.{Option, none, some}
-use mathlib.Core.List.{List, [], _∷_, _++_}
+use mathlib.Core.List.{List, [], _∷_}
 use lib.Dec.{T, eqb}
 use lib.ListN.{length, getElem?, length-append}
-use Rattle.documents.specs.Terms.{Sort, one, many, Tm, Var, Sym, Meta, Abst, Nil, Cons, Term, Terms, len}
-use Rattle.documents.specs.Translation.{Row, row, Located, located, further, lookup, unvar, enter, update}
+use Rattle.documents.specs.Terms.{Sort, Tm, Var, Sym, Meta, Abst, Nil, Cons}
+use Rattle.documents.specs.Translation.{Row, row, Located, located, further, lookup, enter, update}
 use Rattle.documents.specs.Passing.{Slot, slot}
 use Rattle.documents.proofs.Lists.{case}
-use Rattle.kahrs.proofs.Places.{Distinct, Under, eqb-both}
+use Rattle.kahrs.proofs.Places.{eqb-both}
 use Rattle.kahrs.proofs.Simple.{len-vars, unvar-vars, Simple, update-arguments}
 use Rattle.kahrs.proofs.Locations.{update-before}
 use Rattle.kahrs.proofs.LeftSide.{RowGood}

@@ -1,11 +1,11 @@
 -- No accepted rule needs more than 4,096 words. A left side needs at most five words a node, and 62 more where a row is made: a CHECK lists at most
 -- 63 indices, and the two words of each pair of an EQI are charged to the argument. A right side needs at most six words a node: key and body
 -- length of a PUSHI's body are charged to the argument.
-use mathlib.Core.Path.{_≡_, refl, ap, _∙_}
-use Prim.Native.Nat.{ℕ, zero, suc, _+_, _*_, _≤_, _<_}
+use mathlib.Core.Path.{_≡_}
+use Prim.Native.Nat.{ℕ, suc, _+_, _*_, _≤_, _<_}
 use native.Mathlib.Omega.{arith}
 use mathlib.Core.Option.{Option, none, some}
-use mathlib.Core.List.{List, [], _∷_, _++_}
+use mathlib.Core.List.{List, [], _∷_}
 use lib.ListN.{length, length-append}
 use Rattle.documents.specs.Limits.{codeLimit}
 use Rattle.documents.specs.Lists.{pairlists}
@@ -41,10 +41,10 @@ length-unvar (Cons (Sym s us) ts) = let h = length-unvar ts in omega arith
 length-unvar (Cons (Meta z us) ts) = let h = length-unvar ts in omega arith
 length-unvar (Cons (Abst t) ts) = let h = length-unvar ts in omega arith
 
-length-pairWords : (l m : List ℕ) → length (pairWords (pairlists l m)) ≤ 2 * length m
-length-pairWords [] m = omega arith
-length-pairWords (a ∷ l) [] = omega arith
-length-pairWords (a ∷ l) (b ∷ m) = let h = length-pairWords l m in omega arith
+length-paired : (l m : List ℕ) → length (pairWords (pairlists l m)) ≤ 2 * length m
+length-paired [] m = omega arith
+length-paired (a ∷ l) [] = omega arith
+length-paired (a ∷ l) (b ∷ m) = let h = length-paired l m in omega arith
 
 length-occurrence : (n : ℕ) (ts : Terms) (o : Option Located) (r : Row) (rows : List Row) → n < 64
     → length (words (occurrence n ts o)) + 62 * length rows ≤ 5 * suc (nodes ts) + 62 * length (enter o r rows)
@@ -53,7 +53,7 @@ length-occurrence n ts none r rows lo =
     let k = length-append (bvset n ts) (words (SET ▸ NEXT ▸ End)) in
     omega arith
 length-occurrence n ts (some (located i (row z k b a))) r rows lo =
-    let h = length-pairWords a (unvar ts) in
+    let h = length-paired a (unvar ts) in
     let j = length-unvar ts in
     let m = len-nodes ts in
     let k = length-append (pairWords (pairlists a (unvar ts))) (words (NEXT ▸ End)) in
@@ -98,22 +98,22 @@ abbrev Words : (s : Sort) → Built s → ℕ
 Words one c = 2 + length (words c)
 Words many cs = bodyWords cs
 
-length-rhs : {s : Sort} (tab : List Row) (n : ℕ) (t : Tm s) → Words s (rhs tab n t) ≤ 6 * nodes t
-length-rhs tab n (Var x) = omega arith
-length-rhs tab n (Sym s ts) =
-    let h = length-rhs tab n ts in
+length-right : {s : Sort} (tab : List Row) (n : ℕ) (t : Tm s) → Words s (rhs tab n t) ≤ 6 * nodes t
+length-right tab n (Var x) = omega arith
+length-right tab n (Sym s ts) =
+    let h = length-right tab n ts in
     let k = length-joined (rhs tab n ts) (CELL s (len ts) ▸ End) in
     omega arith
-length-rhs tab n (Meta z ts) =
-    let h = length-rhs tab n ts in
+length-right tab n (Meta z ts) =
+    let h = length-right tab n ts in
     let k = length-rhsMeta n (rhs tab n ts) (lookup z (len ts) tab) in
     omega arith
-length-rhs tab n (Abst t) =
-    let h = length-rhs tab (suc n) t in
+length-right tab n (Abst t) =
+    let h = length-right tab (suc n) t in
     let k = length-words-⧺ (rhs tab (suc n) t) (ADBMAL ▸ End) in
     omega arith
-length-rhs tab n Nil = omega arith
-length-rhs tab n (Cons t ts) = let h = length-rhs tab n t in let k = length-rhs tab n ts in omega arith
+length-right tab n Nil = omega arith
+length-right tab n (Cons t ts) = let h = length-right tab n t in let k = length-right tab n ts in omega arith
 
 -- ---- The whole
 
@@ -122,7 +122,7 @@ length-compile l r h =
     rw (lhs-left l h)
     (let a = length-words-⧺ (lhsFrom 0 l []) (rhs (symbolTable l) 0 r) in
     let j = length-lhsFrom 0 l [] (omega arith) h in
-    let k = length-rhs (symbolTable l) 0 r in
+    let k = length-right (symbolTable l) 0 r in
     omega arith)
 
 -- no accepted rule needs more than 4,096 words
