@@ -17,6 +17,7 @@ use Rattle.documents.specs.Instructions.{CELL, ADBMAL, End, _▸_, None, Body, 
 use Rattle.documents.specs.Translation.{Row, Located, lookup, _⧺_, offset, Built, joined, keyed, rhsMeta, rhs}
 use Rattle.documents.specs.Passing.{openLimit, pairLimit, nestLimit, Slot, covers, allBelow, build}
 use Rattle.documents.proofs.Lists.{on, andThen-assoc}
+use Rattle.documents.proofs.Translation.{keys-keyed}
 use Rattle.kahrs.proofs.RightSide.{AllMetas, Below, below-abst}
 use Rattle.kahrs.proofs.Simple.{depth-term}
 use Rattle.kahrs.proofs.Known.{Known}
@@ -30,11 +31,6 @@ build-⧺ es inside l nest (i ▸ c) d hs =
     ap (andThen (build es inside l nest i hs)) (fun-ext (build-⧺ es inside l nest c d)) ∙ sym (andThen-assoc (build es inside l nest i hs) _ _)
 
 -- ---- Bodies behind their keys
-
-keys-keyed : (ks : List ℕ) (cs : List Program) → length ks ≡ length cs → keys (keyed ks cs) ≡ ks
-keys-keyed [] cs e = refl
-keys-keyed (k ∷ ks) [] e = absurd (omega arith)
-keys-keyed (k ∷ ks) (c ∷ cs) e = ap {B = List ℕ} (λ l. k ∷ l) (keys-keyed ks cs (omega arith))
 
 bodyCount-keys : (a : Bodies) → bodyCount a ≡ length (keys a)
 bodyCount-keys None = refl

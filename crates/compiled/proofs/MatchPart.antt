@@ -1,7 +1,7 @@
 -- The match part of compiled code passes. Code is followed with the rest d of the code behind it: the code of a term takes the term's depths off
 -- the current terms, and leaves the rows made so far as entries. The current terms are never more than the nodes still to come.
 use mathlib.Core.Path.{_≡_, refl, ap, _∙_}
-use Prim.Native.Nat.{ℕ, zero, suc, _+_, _≤_, _<_}
+use Prim.Native.Nat.{ℕ, suc, _+_, _≤_, _<_}
 use native.Mathlib.Omega.{arith}
 use mathlib.Core.Option.{Option}
 use mathlib.Core.List.{List, [], _∷_}
@@ -12,24 +12,18 @@ use Rattle.documents.specs.Limits.{argumentLimit, indexLimit, dShift}
 use Rattle.documents.specs.Lists.{pairlists}
 use Rattle.documents.specs.Terms.{Sort, one, many, Tm, Var, Sym, Meta, Abst, Nil, Cons, len}
 use Rattle.documents.specs.Tables.{Fits, nodes}
-use Rattle.documents.specs.Instructions.{End, _▸_, Program}
+use Rattle.documents.specs.Instructions.{Program}
 use Rattle.documents.specs.Translation.{Row, row, Located, lookup, unvar, enter, update, _⧺_, offset}
 use Rattle.documents.specs.Passing.{currentLimit, openLimit, entryLimit, checkLimit, pairLimit, covers, seconds, allBelow, matching, times, parts}
 use Rattle.documents.proofs.Lists.{on}
+use Rattle.documents.proofs.Translation.{⧺-assoc}
+use Rattle.documents.proofs.Passing.{length-times}
+use Rattle.documents.proofs.Nodes.{len-nodes}
 use Rattle.kahrs.proofs.Places.{Under, firsts-pairlists}
 use Rattle.kahrs.proofs.Simple.{vars, len-vars, unvar-vars, Simple, update-arguments}
 use Rattle.kahrs.proofs.Locations.{occurrence, lhsFrom}
 use Rattle.compiled.proofs.Unlisted.{unlisted, length-unlisted, unlisted-below, unlisted-covers, under-below}
-use Rattle.compiled.proofs.WordCount.{len-nodes}
 use Rattle.compiled.proofs.Rows.{slots, length-slots, length-update, RowsGood, update-good, Found, absent, present, found}
-
-⧺-assoc : (a b c : Program) → (a ⧺ b) ⧺ c ≡ a ⧺ (b ⧺ c)
-⧺-assoc End b c = refl
-⧺-assoc (i ▸ a) b c = ap (λ (d : Program). i ▸ d) (⧺-assoc a b c)
-
-length-times : (n d : ℕ) (ds : List ℕ) → length (times n d ds) ≡ length ds + n
-length-times zero d ds = omega arith
-length-times (suc n) d ds = let h = length-times n d ds in omega arith
 
 -- ---- The pairs of an EQI
 

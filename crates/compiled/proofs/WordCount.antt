@@ -1,7 +1,6 @@
 -- No accepted rule needs more than 4,096 words. A left side needs at most five words a node, and 62 more where a row is made: a CHECK lists at most
 -- 63 indices, and the two words of each pair of an EQI are charged to the argument. A right side needs at most six words a node: key and body
 -- length of a PUSHI's body are charged to the argument.
-use mathlib.Core.Path.{_≡_}
 use Prim.Native.Nat.{ℕ, suc, _+_, _*_, _≤_, _<_}
 use native.Mathlib.Omega.{arith}
 use mathlib.Core.Option.{Option, none, some}
@@ -12,25 +11,14 @@ use Rattle.documents.specs.Lists.{pairlists}
 use Rattle.documents.specs.Terms.{Sort, one, many, Tm, Var, Sym, Meta, Abst, Nil, Cons, Term, Terms, len}
 use Rattle.documents.specs.Tables.{nodes}
 use Rattle.documents.specs.Instructions.{NEXT, SET, CELL, ADBMAL, End, _▸_, Program, words, pairWords}
-use Rattle.documents.specs.Translation.{Row, row, Located, located, lookup, unvar, enter, update, symbolTable, _⧺_, Built, joined, keyed, rhsMeta, rhs, bvset, compile}
-use Rattle.documents.proofs.Nodes.{nodes-positive}
+use Rattle.documents.specs.Translation.{Row, row, Located, located, lookup, unvar, enter, update, symbolTable, Built, joined, keyed, rhsMeta, rhs, bvset, compile}
+use Rattle.documents.proofs.Nodes.{len-nodes}
 use Rattle.documents.proofs.Numbers.{Accepted}
+use Rattle.documents.proofs.Translation.{length-words-⧺}
 use Rattle.kahrs.proofs.Simple.{Simple, update-arguments}
 use Rattle.kahrs.proofs.Locations.{occurrence, lhsFrom, lhs-left}
 use Rattle.kahrs.proofs.Main.{crs-rule}
 use Rattle.compiled.proofs.Unlisted.{length-unlisted}
-
-pub length-words-⧺ : (c d : Program) → length (words (c ⧺ d)) ≡ length (words c) + length (words d)
-length-words-⧺ End d = omega arith
-length-words-⧺ (i ▸ c) d =
-    let h = length-words-⧺ c d in
-    let a = length-append (words i) (words (c ⧺ d)) in
-    let b = length-append (words i) (words c) in
-    omega arith
-
-pub len-nodes : (ts : Terms) → len ts ≤ nodes ts
-len-nodes Nil = omega arith
-len-nodes (Cons t ts) = let h = len-nodes ts in let k = nodes-positive t in omega arith
 
 -- ---- The left side
 

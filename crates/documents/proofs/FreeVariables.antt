@@ -1,15 +1,15 @@
 -- Free variables. 004 lists them; a test of all of them is a predicate that goes down the term, and under an abstraction it is moved: then
 -- inductions under binders need no arithmetic.
-use mathlib.Core.Path.{_≡_, refl, sym, ap, ap₂, _∙_, subst as transport}
+use mathlib.Core.Path.{_≡_, refl, ap, ap₂, subst as transport}
 use Prim.Native.Nat.{ℕ, zero, suc, _+_, _-_, _≤_, _<_}
 use native.Mathlib.Nat.{le-of-suc-le-suc, not-suc-le-zero}
 use native.Mathlib.Omega.{arith}
-use mathlib.Core.Bool.{Bool, true, false, not, _&&_, _||_, cond}
-use mathlib.Core.List.{List, [], _∷_, _++_}
-use lib.Dec.{T, eqb, leb, ltb, eqb-refl, leb·suc-zero, leb·suc-suc}
-use borrow.Author.Tests.{lt-ltb, le-ltb}
+use mathlib.Core.Bool.{Bool, true, false, _||_}
+use mathlib.Core.List.{List, [], _∷_}
+use lib.Dec.{T, eqb, eqb-refl, leb·suc-zero, leb·suc-suc}
+use borrow.Author.Tests.{lt-ltb}
 use Rattle.documents.specs.Lists.{every, member}
-use Rattle.documents.specs.Terms.{Sort, one, many, Tm, Var, Sym, Meta, Abst, Nil, Cons, Term, Terms, len, renameUnder, rename, lift, substUnder, subst}
+use Rattle.documents.specs.Terms.{Sort, Tm, Var, Sym, Meta, Abst, Nil, Cons, Term, renameUnder, rename, substUnder, subst}
 use Rattle.documents.specs.Rules.{fv, freevars}
 use Rattle.documents.proofs.Lists.{on, of-and, and-of, every-append}
 

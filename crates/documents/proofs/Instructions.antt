@@ -1,16 +1,16 @@
 -- Code as words and words as code: each gives the other back. Reading walks the words with a number of words to pass over; `pass` turns
 -- that into a place, and then each instruction's own words are read where they stand.
-use mathlib.Core.Path.{_≡_, refl, sym, ap, ap₂, _∙_}
-use Prim.Native.Nat.{ℕ, zero, suc, _+_, _-_, _*_, _≤_, _<_}
+use mathlib.Core.Path.{_≡_, refl, sym, ap, _∙_}
+use Prim.Native.Nat.{ℕ, zero, suc, _+_, _-_, _*_, _≤_}
 use native.Mathlib.Omega.{arith}
-use mathlib.Core.Bool.{Bool, true, false, cond}
+use mathlib.Core.Bool.{false, cond}
 use mathlib.Core.Option.{Option, none, some}
 use mathlib.Core.List.{List, [], _∷_, _++_, append-assoc, append-nil}
 use lib.Dec.{eqb, leb, eqb·suc-zero}
 use lib.ListN.{length, getD, take, drop, length-append, length-drop}
 use lib.Seq.{take-at, drop-at, take-append-seam, length-take-le, take-add, drop-drop, take-length}
 use borrow.Author.Tests.{le-leb, leb-true}
-use Rattle.documents.specs.Lists.{need, andThen}
+use Rattle.documents.specs.Lists.{need}
 use Rattle.documents.specs.Instructions.{Piece, instruction, program, bodies, Code, IS, ISABST, NEXT, CHECK, SET, EQVAR, EQIMM, EQI, CELL, LAMBDA, ADBMAL, PUSHVAR, PUSHIMM, PUSHI, End, _▸_, None, Body, Instruction, Program, Bodies, fixedAfter, bodyCount, pairWords, words, pairsIn, Read, whole, plainIn, before, ReadBodies, wholeBodies, plainThen, bodiesThen, bodyThen, programFrom, bodiesFrom, programIn}
 use Rattle.documents.proofs.Lists.{never, needed, branch}
 

@@ -5,6 +5,8 @@ pub mod FreeVariables
 pub mod Tables
 pub mod Instructions
 pub mod Machine
+pub mod Translation
+pub mod Passing
 pub mod Numbers
 pub mod Nodes
 pub mod Paper

@@ -1,17 +1,16 @@
 -- What `push` leaves on the stack: the entry under a substitution (the core of 004's Lemma 8).
-use mathlib.Core.Path.{_≡_, refl, sym, ap, ap₂, _∙_}
+use mathlib.Core.Path.{_≡_, refl, sym, ap, _∙_}
 use mathlib.Core.Logic.{_⊎_, inl, inr}
 use Prim.Native.Nat.{ℕ, zero, suc, _+_, _-_, _≤_, _<_}
 use native.Mathlib.Omega.{arith}
-use mathlib.Core.Bool.{Bool, true, false, not, _&&_, _||_, cond}
-use mathlib.Core.Option.{Option, none, some}
-use mathlib.Core.List.{List, [], _∷_, _++_, map}
+use mathlib.Core.Option.{Option}
+use mathlib.Core.List.{List, _∷_}
 use lib.Dec.{ltb}
 use borrow.Author.Tests.{lt-ltb, le-ltb}
-use Rattle.documents.specs.Terms.{Sort, one, many, Tm, Var, Sym, Meta, Abst, Nil, Cons, Term, Terms, len, renameUnder, rename, lift, substUnder, subst}
-use Rattle.documents.specs.Machine.{Current, Entry, State, state, Outcome, done, fails, noStep, _>>=_, Action, split, cell, wrap, pushed, pushFree, pushMet, push}
+use Rattle.documents.specs.Terms.{Sort, one, many, Tm, Var, Sym, Meta, Abst, Nil, Cons, Term, Terms, len, rename, lift, subst}
+use Rattle.documents.specs.Machine.{Current, Entry, State, state, Outcome, done, _>>=_, Action, split, cell, wrap, pushFree, pushMet, push}
 use Rattle.documents.proofs.Substitution.{rename-ext, rename-rename, rename-id, len-subst, substUnders}
-use Rattle.documents.proofs.FreeVariables.{under, unders, AllFree}
+use Rattle.documents.proofs.FreeVariables.{unders, AllFree}
 
 -- the terms of t on the stack, pushed one after the other
 abbrev pub onto : (s : Sort) → Tm s → List Term → List Term

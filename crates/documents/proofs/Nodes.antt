@@ -1,5 +1,5 @@
 -- The number beside a current term is that of its node in the subject: it holds at the start, and each match instruction keeps it.
-use mathlib.Core.Path.{_≡_, refl, sym, ap, _∙_}
+use mathlib.Core.Path.{_≡_, refl, ap, _∙_}
 use Prim.Native.Nat.{ℕ, zero, suc, _+_, _-_, _≤_, _<_}
 use native.Mathlib.Omega.{arith}
 use mathlib.Core.Bool.{Bool, true, false, not, _&&_, cond}
@@ -9,11 +9,11 @@ use lib.Dec.{T, eqb, ltb}
 use lib.ListN.{getElem?}
 use borrow.Author.Tests.{lt-ltb, le-ltb, ltb-true, ltb-false, eqb-true}
 use Rattle.documents.specs.Lists.{every, member}
-use Rattle.documents.specs.Terms.{Sort, one, many, Tm, Var, Sym, Meta, Abst, Nil, Cons, Term, Terms, len, rename}
+use Rattle.documents.specs.Terms.{Sort, Tm, Var, Sym, Meta, Abst, Nil, Cons, Term, Terms, len, rename}
 use Rattle.documents.specs.Tables.{nodes, subterm}
 use Rattle.documents.specs.Rules.{freevars}
 use Rattle.documents.specs.Instructions.{IS, ISABST, NEXT, CHECK, SET, EQVAR, EQIMM, EQI, CELL, LAMBDA, ADBMAL, PUSHVAR, PUSHIMM, PUSHI, Instruction}
-use Rattle.documents.specs.Machine.{Current, current, Entry, entry, State, state, Outcome, done, fails, noStep, test, orFails, orNoStep, Action, argumentsOf, bodyOf, isVar, equal, placed, firsts, renaming, eqi, eqimm, currents, withCurrent, exec, start}
+use Rattle.documents.specs.Machine.{Current, current, Entry, entry, State, state, Outcome, done, noStep, test, orFails, orNoStep, Action, argumentsOf, bodyOf, isVar, equal, placed, firsts, renaming, eqi, eqimm, currents, withCurrent, exec, start}
 use Rattle.documents.specs.Passing.{isMatch}
 use Rattle.documents.proofs.Lists.{never}
 
@@ -24,6 +24,10 @@ nodes-positive (Var x) = omega arith
 nodes-positive (Sym s ts) = omega arith
 nodes-positive (Meta z ts) = omega arith
 nodes-positive (Abst t) = omega arith
+
+pub len-nodes : (ts : Terms) → len ts ≤ nodes ts
+len-nodes Nil = omega arith
+len-nodes (Cons t ts) = let h = len-nodes ts in let k = nodes-positive t in omega arith
 
 pub subterm-root : (t : Term) → subterm t 0 ≡ some t
 subterm-root (Var x) = refl

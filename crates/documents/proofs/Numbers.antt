@@ -1,7 +1,7 @@
 -- What an answer that is no refusal says: a table's term within its limits, an accepted subject, an accepted rule; and that each of these is
 -- answered. A refusal travels up unchanged, so a chain of tests is taken apart from its head.
-use mathlib.Core.Path.{_≡_, refl, sym, ap, _∙_}
-use Prim.Native.Nat.{ℕ, _+_, _*_, _≤_}
+use mathlib.Core.Path.{_≡_, refl, ap, _∙_}
+use Prim.Native.Nat.{ℕ, _*_, _≤_}
 use native.Mathlib.Omega.{arith}
 use mathlib.Core.Bool.{Bool, true, false, _&&_}
 use mathlib.Core.Option.{Option, none, some}
@@ -16,8 +16,8 @@ use Rattle.documents.specs.Terms.{Term}
 use Rattle.documents.specs.Tables.{tableOf, Fits, termIn, nodes, depth}
 use Rattle.documents.specs.Rules.{metas, simple, isSymbol, closed, contains, crsRule}
 use Rattle.documents.specs.Translation.{symbolTable}
-use Rattle.documents.specs.Numbers.{Answer, answered, refused, unless, orRefuse, with, tableIn, subjectIn, Rule, rule, ruleIn}
-use Rattle.documents.proofs.Lists.{never, on, of-and, and-of}
+use Rattle.documents.specs.Numbers.{Answer, answered, refused, unless, orRefuse, with, tableIn, subjectIn, rule, ruleIn}
+use Rattle.documents.proofs.Lists.{never, on, of-and}
 use Rattle.documents.proofs.Tables.{termIn-tableOf, tableOf-termIn, length-tableOf}
 
 -- ---- Chains of tests

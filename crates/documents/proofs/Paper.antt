@@ -1,14 +1,14 @@
 -- Where a definition says in one piece what 004 writes as a walk with a counter of abstractions: the walk gives the same.
-use mathlib.Core.Path.{_≡_, refl, sym, ap, ap₂, _∙_, fun-ext}
+use mathlib.Core.Path.{_≡_, refl, sym, ap, ap₂, _∙_}
 use Prim.Native.Nat.{ℕ, zero, suc, _+_, _-_, _<_}
 use native.Mathlib.Omega.{arith}
 use mathlib.Core.Bool.{Bool, true, false, not, _&&_, _||_, cond}
-use mathlib.Core.List.{List, [], _∷_, _++_}
+use mathlib.Core.List.{List, [], _∷_}
 use lib.Dec.{ltb, leb·suc-suc, leb·suc-zero}
 use borrow.Author.Tests.{lt-ltb}
 use Rattle.documents.specs.Lists.{every, member}
-use Rattle.documents.specs.Terms.{Sort, one, many, Tm, Var, Sym, Meta, Abst, Nil, Cons, Term, Terms, renameUnder, rename}
-use Rattle.documents.specs.Rules.{fv, freevars}
+use Rattle.documents.specs.Terms.{Sort, Tm, Var, Sym, Meta, Abst, Nil, Cons, rename}
+use Rattle.documents.specs.Rules.{fv}
 use Rattle.documents.specs.Machine.{isVar, isSym, isMeta, isAbst, isNil, isCons, equal, renaming}
 use Rattle.documents.proofs.Lists.{every-append}
 use Rattle.documents.proofs.Substitution.{renameUnders}

@@ -1,12 +1,9 @@
 -- Renaming and substitution: Propositions 1 and 2 of 004. Two substitutions that agree everywhere are one, so each law is an equation of
 -- functions, by induction on the term; under an abstraction it is the law itself at the functions moved under it.
 use mathlib.Core.Path.{_≡_, refl, sym, ap, ap₂, _∙_, fun-ext}
-use Prim.Native.Nat.{ℕ, zero, suc, _+_, _-_, _<_}
+use Prim.Native.Nat.{ℕ, zero, suc, _+_}
 use native.Mathlib.Omega.{arith}
-use mathlib.Core.Bool.{cond}
-use mathlib.Core.Option.{Option, none, some}
-use lib.Dec.{ltb}
-use Rattle.documents.specs.Terms.{Sort, one, many, Tm, Var, Sym, Meta, Abst, Nil, Cons, Term, Terms, len, renameUnder, rename, lift, substUnder, subst, inPlace, beta, betas, absts}
+use Rattle.documents.specs.Terms.{Sort, Tm, Var, Sym, Meta, Abst, Nil, Cons, Term, Terms, len, renameUnder, rename, lift, substUnder, subst, inPlace, beta, betas, absts}
 
 pub subst-ext : {s : Sort} (f g : ℕ → Term) (t : Tm s) → ((x : ℕ) → f x ≡ g x) → subst f t ≡ subst g t
 subst-ext f g t h = ap (λ (k : ℕ → Term). subst k t) (fun-ext h)

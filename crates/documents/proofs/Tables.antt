@@ -1,7 +1,7 @@
 -- Tables and terms: each gives the other back, and a subterm is a part of the table. Words are read from the end, so each law is about the
 -- words of a term with any others after them, or about all the terms that words hold.
-use mathlib.Core.Path.{_≡_, refl, sym, ap, ap₂, _∙_, fun-ext}
-use Prim.Native.Nat.{ℕ, zero, suc, _+_, _-_, _*_, _/_, _%_, _≤_, _<_}
+use mathlib.Core.Path.{_≡_, refl, sym, ap, _∙_}
+use Prim.Native.Nat.{ℕ, zero, suc, _-_, _*_, _/_, _%_, _≤_}
 use native.Mathlib.Omega.{arith}
 use mathlib.Core.Bool.{Bool, true, false, cond}
 use mathlib.Core.Option.{Option, none, some}
@@ -11,10 +11,10 @@ use lib.ListN.{length, take, drop, length-append}
 use lib.Seq.{take-at, drop-at}
 use borrow.Author.Tests.{le-leb, leb-true, eqb-true, ltb-false}
 use Rattle.documents.specs.Limits.{argumentLimit, indexLimit}
-use Rattle.documents.specs.Lists.{need, andThen}
+use Rattle.documents.specs.Lists.{andThen}
 use Rattle.documents.specs.Terms.{Sort, one, many, Tm, Var, Sym, Meta, Abst, Nil, Cons, Term, Terms, len}
 use Rattle.documents.proofs.Lists.{never, needed, andThen-assoc, andThen-ext, andThen-some}
-use Rattle.documents.specs.Tables.{Kind, variable, symbol, metavariable, abstraction, other, kindOf, nodeWord, tableOf, Fits, grab, abstract, node, termsIn, single, termIn, nodes, subterm}
+use Rattle.documents.specs.Tables.{symbol, metavariable, kindOf, nodeWord, tableOf, Fits, grab, abstract, node, termsIn, single, termIn, nodes, subterm}
 
 -- the terms of t before the terms us
 abbrev pub before : (s : Sort) → Tm s → List Term → List Term

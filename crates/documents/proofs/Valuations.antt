@@ -3,9 +3,9 @@
 use mathlib.Core.Path.{_≡_, refl, sym, ap, ap₂, _∙_, fun-ext}
 use Prim.Native.Nat.{ℕ, zero, suc, _+_}
 use native.Mathlib.Omega.{arith}
-use mathlib.Core.List.{List, [], _∷_, _++_}
-use Rattle.documents.specs.Terms.{Sort, one, many, Tm, Var, Sym, Meta, Abst, Nil, Cons, Term, Terms, len, renameUnder, rename, lift, substUnder, subst, betas, absts}
-use Rattle.documents.specs.Rules.{Val, Valuation, Substitute, metas, metasubst}
+use mathlib.Core.List.{List, _∷_, _++_}
+use Rattle.documents.specs.Terms.{Sort, Tm, Var, Sym, Meta, Abst, Nil, Cons, Term, Terms, len, renameUnder, rename, lift, subst, betas, absts}
+use Rattle.documents.specs.Rules.{Val, Valuation, metas, metasubst}
 use Rattle.documents.proofs.Substitution.{subst-ext, rename-ext, rename-rename, subst-rename, rename-id, len-rename, renameUnders, select, betas-select}
 
 -- the bodies of a valuation

@@ -1,19 +1,17 @@
 -- The five calls (document 01, 'Numbers given back' and 'Bytes and the program'): for all that goes in, the old contents of the lent tables
 -- too, the number, the counts and every lent word afterwards. Contracts cite these.
-use Prim.Native.Nat.{ℕ, zero, suc, _+_, _-_, _*_}
-use mathlib.Core.Bool.{Bool, true, false, cond, _&&_}
+use Prim.Native.Nat.{ℕ, _+_, _*_}
+use mathlib.Core.Bool.{cond}
 use mathlib.Core.Option.{Option, none, some}
 use mathlib.Core.List.{List, [], _∷_}
 use lib.Dec.{eqb, leb}
 use lib.ListN.{length, getD, take, drop, replicate}
 use lib.Seq.{sets}
-use Rattle.documents.specs.declared.Refusal.{Refusal}
-use Rattle.documents.specs.declared.Refusal.the-variants.{CodeTableShort, DoesNotPass, WorkingTableShort, BadFile}
+use Rattle.documents.specs.declared.Refusal.the-variants.{DoesNotPass, WorkingTableShort, BadFile}
 use Rattle.documents.specs.Limits.{planLimit, codeLimit, workingWords}
-use Rattle.documents.specs.Lists.{need, andThen}
+use Rattle.documents.specs.Lists.{need}
 use Rattle.documents.specs.Terms.{Term}
 use Rattle.documents.specs.Tables.{nodes}
-use Rattle.documents.specs.Instructions.{Program}
 use Rattle.documents.specs.Machine.{Current, current, State, state, run, first, finished}
 use Rattle.documents.specs.Passing.{passes}
 use Rattle.documents.specs.Numbers.{numberOf, Answer, answered, refused, unless, orRefuse, with, ruleIn, codeFor, subjectIn, codeIn, outcomeOf, resultFor}

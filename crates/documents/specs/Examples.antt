@@ -1,12 +1,11 @@
 -- Document 01, 'Proved examples', and figure 1 of 004, as one table. Law `examples`: all of them hold.
-use Prim.Native.Nat.{ℕ, zero, suc}
+use Prim.Native.Nat.{ℕ}
 use mathlib.Core.Bool.{Bool, true, false, _&&_}
 use mathlib.Core.List.{List, [], _∷_, _++_}
 use lib.Dec.{eqb}
 use lib.ListN.{length, take, drop, replicate}
 use Rattle.documents.specs.Limits.{codeLimit}
-use Rattle.documents.specs.Lists.{every}
-use Rattle.documents.specs.Terms.{Sort, one, many, Tm, Var, Sym, Meta, Abst, Nil, Cons, Term, Terms}
+use Rattle.documents.specs.Terms.{Var, Sym, Meta, Abst, Nil, Cons, Term, Terms}
 use Rattle.documents.specs.Tables.{tableOf}
 use Rattle.documents.specs.Instructions.{Program, IS, ISABST, NEXT, CHECK, SET, CELL, LAMBDA, ADBMAL, PUSHVAR, PUSHI, End, _▸_, None, Body, words}
 use Rattle.documents.specs.Calls.{CompileAnswer, compileCall, checkCall, planLine, planApply}

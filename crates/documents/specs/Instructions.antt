@@ -1,6 +1,6 @@
 -- Instructions, and code as words (document 01, 'Rules, valuations, translation'; 004, section 4.2). In opcode order everywhere.
 use Prim.Native.Nat.{ℕ, zero, suc, _+_, _-_, _*_}
-use mathlib.Core.Bool.{Bool, true, false, cond}
+use mathlib.Core.Bool.{cond}
 use mathlib.Core.Option.{Option, none, some}
 use mathlib.Core.List.{List, [], _∷_, _++_}
 use lib.Dec.{eqb, leb}

@@ -4,13 +4,13 @@ use mathlib.Core.Bool.{Bool, true, false, not, _&&_, _||_, cond}
 use mathlib.Core.Option.{Option, none, some}
 use mathlib.Core.List.{List, [], _∷_, map}
 use lib.Dec.{eqb, leb, ltb}
-use lib.ListN.{length, getElem?}
+use lib.ListN.{getElem?}
 use Rattle.documents.specs.Limits.{dShift}
 use Rattle.documents.specs.Lists.{every, member, assoc}
-use Rattle.documents.specs.Terms.{Sort, one, many, Tm, Var, Sym, Meta, Abst, Nil, Cons, Term, Terms, len, rename}
+use Rattle.documents.specs.Terms.{Sort, Tm, Var, Sym, Meta, Abst, Nil, Cons, Term, Terms, len, rename}
 use Rattle.documents.specs.Tables.{nodes}
 use Rattle.documents.specs.Rules.{freevars}
-use Rattle.documents.specs.Instructions.{Piece, instruction, program, bodies, Code, IS, ISABST, NEXT, CHECK, SET, EQVAR, EQIMM, EQI, CELL, LAMBDA, ADBMAL, PUSHVAR, PUSHIMM, PUSHI, End, _▸_, None, Body, Instruction, Program, Bodies, keys}
+use Rattle.documents.specs.Instructions.{Piece, instruction, program, bodies, Code, IS, ISABST, NEXT, CHECK, SET, EQVAR, EQIMM, EQI, CELL, LAMBDA, ADBMAL, PUSHVAR, PUSHIMM, PUSHI, End, _▸_, None, Body, Program, keys}
 
 -- ---- 4.1 Components
 

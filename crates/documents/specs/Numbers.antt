@@ -2,7 +2,7 @@
 use Prim.Native.Nat.{ℕ, _*_, _/_, min}
 use mathlib.Core.Bool.{Bool, true, false, _&&_}
 use mathlib.Core.Option.{Option, none, some}
-use mathlib.Core.List.{List, [], _∷_}
+use mathlib.Core.List.{List}
 use lib.Dec.{leb}
 use lib.ListN.{length}
 use Rattle.documents.specs.declared.Refusal.{Refusal}
@@ -13,7 +13,7 @@ use Rattle.documents.specs.Terms.{Term}
 use Rattle.documents.specs.Tables.{tableOf, termIn, nodes, depth, indices}
 use Rattle.documents.specs.Rules.{metas, simple, isSymbol, closed, contains}
 use Rattle.documents.specs.Instructions.{Program, words, programIn}
-use Rattle.documents.specs.Machine.{State, Outcome, done, fails, noStep, finished}
+use Rattle.documents.specs.Machine.{State, Outcome, done, fails, noStep}
 use Rattle.documents.specs.Translation.{symbolTable, compile}
 use Rattle.documents.specs.Passing.{passes}
 

@@ -7,7 +7,7 @@ use lib.Dec.{eqb, leb, ltb}
 use lib.ListN.{length, getElem?}
 use Rattle.documents.specs.Limits.{argumentLimit, indexLimit, codeLimit, dShift}
 use Rattle.documents.specs.Lists.{every, member, upTo, need, andThen}
-use Rattle.documents.specs.Instructions.{Piece, instruction, program, bodies, Code, IS, ISABST, NEXT, CHECK, SET, EQVAR, EQIMM, EQI, CELL, LAMBDA, ADBMAL, PUSHVAR, PUSHIMM, PUSHI, End, _▸_, None, Body, Instruction, Program, Bodies, opCELL, opcode, bodyCount, keys, programIn}
+use Rattle.documents.specs.Instructions.{Piece, instruction, program, bodies, Code, IS, ISABST, NEXT, CHECK, SET, EQVAR, EQIMM, EQI, CELL, LAMBDA, ADBMAL, PUSHVAR, PUSHIMM, PUSHI, End, _▸_, None, Body, Instruction, Program, opCELL, opcode, bodyCount, keys, programIn}
 use Rattle.documents.specs.Machine.{firsts}
 
 -- ---- 01's numbers for code, in its order

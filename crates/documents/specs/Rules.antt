@@ -1,11 +1,11 @@
 -- Rules and valuations (document 01, 'Rules, valuations, translation'; 004, section 2).
 use mathlib.Core.Path.{_≡_}
-use Prim.Native.Nat.{ℕ, zero, suc, _-_}
+use Prim.Native.Nat.{ℕ, suc, _-_}
 use mathlib.Core.Bool.{Bool, true, false, _&&_, _||_, cond}
 use mathlib.Core.List.{List, [], _∷_, _++_}
 use lib.Dec.{eqb, ltb}
 use Rattle.documents.specs.Lists.{every, isset, isEmpty}
-use Rattle.documents.specs.Terms.{Sort, one, many, Tm, Var, Sym, Meta, Abst, Nil, Cons, Term, Terms, len, lift, betas, absts}
+use Rattle.documents.specs.Terms.{Sort, Tm, Var, Sym, Meta, Abst, Nil, Cons, Term, Terms, len, lift, betas, absts}
 
 -- the free variables under n abstractions, as seen from above them
 abbrev pub fv : {s : Sort} → ℕ → Tm s → List ℕ

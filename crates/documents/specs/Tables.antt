@@ -1,12 +1,12 @@
 -- Node tables (document 01, 'Terms and node tables').
 use Prim.Native.Nat.{ℕ, zero, suc, _+_, _-_, _*_, _/_, _%_, _≤_, max}
-use mathlib.Core.Bool.{Bool, true, false, cond}
+use mathlib.Core.Bool.{cond}
 use mathlib.Core.Option.{Option, none, some}
 use mathlib.Core.List.{List, [], _∷_, _++_}
 use lib.Dec.{eqb, leb, ltb}
 use Rattle.documents.specs.Limits.{argumentLimit, indexLimit, kindStep}
 use Rattle.documents.specs.Lists.{need, andThen}
-use Rattle.documents.specs.Terms.{Sort, one, many, Tm, Var, Sym, Meta, Abst, Nil, Cons, Term, Terms, len}
+use Rattle.documents.specs.Terms.{Sort, Tm, Var, Sym, Meta, Abst, Nil, Cons, Term, Terms, len}
 
 -- The kinds of nodes, in the order of 01's table; `other` stands for all that is none.
 pub data Kind : Type 0 where

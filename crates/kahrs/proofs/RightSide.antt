@@ -5,22 +5,23 @@ use Prim.Native.Nat.{ℕ, zero, suc, _+_, _-_, _≤_, _<_}
 use native.Mathlib.Nat.{le-of-suc-le-suc, not-suc-le-zero}
 use native.Mathlib.Omega.{arith}
 use mathlib.Core.Bool.{Bool, true, false, not, _&&_, _||_, cond}
-use mathlib.Core.Option.{Option, none, some}
-use mathlib.Core.List.{List, [], _∷_, _++_, map}
+use mathlib.Core.Option.{Option, some}
+use mathlib.Core.List.{List, [], _∷_, map}
 use lib.Dec.{T, eqb, leb, leb→le, le→leb}
 use lib.ListN.{length, getElem?, length-map}
 use Rattle.documents.specs.Limits.{dShift}
 use Rattle.documents.specs.Lists.{every, member}
-use Rattle.documents.specs.Terms.{Sort, one, many, Tm, Var, Sym, Meta, Abst, Nil, Cons, Term, Terms, len, renameUnder, rename, lift, substUnder, subst}
+use Rattle.documents.specs.Terms.{Sort, one, many, Tm, Var, Sym, Meta, Abst, Nil, Cons, Term, Terms, len, rename, subst}
 use Rattle.documents.specs.Rules.{Val, freevars}
-use Rattle.documents.specs.Instructions.{Code, CELL, LAMBDA, ADBMAL, PUSHVAR, PUSHI, End, _▸_, None, Body, Program, Bodies, keys}
-use Rattle.documents.specs.Machine.{Current, Entry, entry, State, state, Outcome, done, fails, noStep, _>>=_, Action, placed, pushFree, push, pushi, pushVar, exec}
-use Rattle.documents.specs.Translation.{Row, row, Located, located, lookup, _⧺_, offset, Built, joined, keyed, rhsMeta, rhs}
-use Rattle.documents.proofs.Substitution.{rename-ext, rename-rename, subst-rename, rename-subst, rename-id, len-rename, select}
+use Rattle.documents.specs.Instructions.{ADBMAL, End, _▸_, Program, keys}
+use Rattle.documents.specs.Machine.{Current, Entry, entry, State, state, Outcome, done, fails, noStep, _>>=_, Action, placed, pushFree, pushi, pushVar, exec}
+use Rattle.documents.specs.Translation.{Row, row, located, lookup, _⧺_, offset, Built, joined, keyed, rhsMeta, rhs}
+use Rattle.documents.proofs.Substitution.{rename-ext, rename-rename, subst-rename, rename-subst, len-rename, select}
 use Rattle.documents.proofs.Valuations.{instance, len-instance}
-use Rattle.documents.proofs.Lists.{on, of-and, and-of}
+use Rattle.documents.proofs.Lists.{on, and-of}
 use Rattle.documents.proofs.FreeVariables.{AllFree, AllFree-map, every-of-free}
 use Rattle.documents.proofs.Machine.{onto, cell-onto, Gives, push-is}
+use Rattle.documents.proofs.Translation.{keys-keyed}
 
 -- ---- 004's offset(), as a renaming
 
@@ -151,11 +152,6 @@ module _ (cs : List Current) (env : List Entry) where
       other : (q p s : Bool) → T ((q || p) || s) → T (not q) → T (p || s)
       other true p s h q = absurd q
       other false p s h q = h
-
-keys-keyed : (l : List ℕ) (ds : List Program) → length l ≡ length ds → keys (keyed l ds) ≡ l
-keys-keyed [] ds e = refl
-keys-keyed (a ∷ l) [] e = absurd (omega arith)
-keys-keyed (a ∷ l) (d ∷ ds) e = ap {B = List ℕ} (λ k. a ∷ k) (keys-keyed l ds (omega arith))
 
 module _ (cs : List Current) (env : List Entry) where
   length-runs : (n : ℕ) (ds : List Program) (us : Terms) → RunsAll cs env n ds us → length ds ≡ len us

@@ -8,7 +8,7 @@ use native.Mathlib.Decide.{ℕ-discrete}
 use mathlib.Core.Bool.{Bool, true, false, not, _&&_, _||_}
 use mathlib.Core.Option.{Option, some}
 use mathlib.Core.List.{List, [], _∷_}
-use lib.Dec.{T, leb, leb→le, le→leb}
+use lib.Dec.{T, leb, le→leb}
 use lib.ListN.{length, getElem?}
 use Rattle.documents.specs.Limits.{dShift}
 use Rattle.documents.specs.Lists.{every, member, upTo}
@@ -16,7 +16,7 @@ use Rattle.documents.specs.Terms.{Term}
 use Rattle.documents.specs.Rules.{freevars}
 use Rattle.documents.specs.Machine.{Entry, entry, placed}
 use Rattle.documents.specs.Passing.{openLimit, Slot, slot, withSlot, covers}
-use Rattle.documents.proofs.Lists.{never, of-and, and-of, every-append}
+use Rattle.documents.proofs.Lists.{never, of-and, every-append}
 use Rattle.documents.proofs.FreeVariables.{unders, AllFree, AllFree-map, every-of-free}
 use Rattle.kahrs.proofs.RightSide.{covered, placed-of-covered}
 

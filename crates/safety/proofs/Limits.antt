@@ -13,8 +13,9 @@ use Rattle.documents.specs.Limits.{argumentLimit, indexLimit, dShift}
 use Rattle.documents.specs.Lists.{andThen}
 use Rattle.documents.specs.Instructions.{IS, ISABST, NEXT, CHECK, SET, EQVAR, EQIMM, EQI, CELL, LAMBDA, ADBMAL, PUSHVAR, PUSHIMM, PUSHI, End, _▸_, Instruction, Program, bodyCount, keys}
 use Rattle.documents.specs.Machine.{firsts, first}
-use Rattle.documents.specs.Passing.{currentLimit, openLimit, entryLimit, checkLimit, pairLimit, nestLimit, Slot, slot, withSlot, covers, seconds, allBelow, Matching, matching, times, matchTop, matchStep, blocks, oneMore, takeMany, shut, build, isMatch}
+use Rattle.documents.specs.Passing.{currentLimit, openLimit, entryLimit, checkLimit, pairLimit, nestLimit, Slot, slot, withSlot, covers, seconds, allBelow, Matching, matching, matchTop, matchStep, blocks, oneMore, takeMany, shut, build, isMatch}
 use Rattle.documents.proofs.Lists.{never, case, needed, andThen-is}
+use Rattle.documents.proofs.Passing.{length-times}
 use Rattle.safety.proofs.Counts.{Progress, inMatch, currentCount, entryCount, builtAfter, progress, beginning}
 
 pub slot-there : {A : Type 0} (o : Option Slot) (f : ℕ → List ℕ → Option A) (r : A) → withSlot o f ≡ some r → (b : ℕ) × (g : List ℕ) × (f b g ≡ some r)
@@ -25,10 +26,6 @@ slot-there (some (slot b g)) f r e = (b, g, e)
 
 abbrev pub Within : Matching → Type 0
 Within (matching ds es g) = (length ds ≤ currentLimit) × (length es ≤ entryLimit)
-
-length-times : (n d : ℕ) (ds : List ℕ) → length (times n d ds) ≡ length ds + n
-length-times zero d ds = omega arith
-length-times (suc n) d ds = let h = length-times n d ds in omega arith
 
 within-of : {m m′ : Matching} → some m ≡ some m′ → Within m → Within m′
 within-of {m} {m′} e h = let p : m ≡ m′ = cc in rw p at h
