@@ -31,7 +31,11 @@ fn case(name: &str) -> Option<(Rule, Vec<u32>)> {
         "beta" => {
             let app = |t, u| Term::Sym(1, vec![Term::Sym(2, vec![Term::abst(t)]), u]);
             let y = || Term::Meta(8, vec![]);
-            (app(z(vec![Term::Var(0)]), y()), z(vec![y()]), app(tree(1, &Term::Var(0)), Term::Var(7)))
+            (
+                app(z(vec![Term::Var(0)]), y()),
+                z(vec![y()]),
+                app(tree(1, &Term::Var(0)), Term::Var(7)),
+            )
         }
         // 2,047 nodes twice, no index moved.
         "copy" => {
