@@ -46,11 +46,11 @@ abbrev pub sectionIn : ℕ → ℕ → List ℕ → Option Section
 sectionIn limit room bs = need (leb 4 (length bs)) (counted (bigEndian (getD bs 0 0) (getD bs 1 0) (getD bs 2 0) (getD bs 3 0)) limit room (drop 4 bs))
 
 -- the words of a side and of a subject that a file may hold
-abbrev pub sideWords : ℕ
-sideWords = 1024
+abbrev pub fileSideWords : ℕ
+fileSideWords = 1024
 
-abbrev pub subjectWords : ℕ
-subjectWords = 8192
+abbrev pub fileSubjectWords : ℕ
+fileSubjectWords = 8192
 
 pub data File : Type 0 where
   file : List ℕ → List ℕ → List ℕ → File
@@ -62,9 +62,9 @@ withSection (some (section ws bs)) f = f ws bs
 -- left, right and subject, for tables of so many words, and nothing after
 abbrev pub sectionsIn : ℕ → ℕ → ℕ → List ℕ → Option File
 sectionsIn left right subject bs =
-    withSection (sectionIn sideWords left bs) (λ l bs₁.
-    withSection (sectionIn sideWords right bs₁) (λ r bs₂.
-    withSection (sectionIn subjectWords subject bs₂) (λ s bs₃.
+    withSection (sectionIn fileSideWords left bs) (λ l bs₁.
+    withSection (sectionIn fileSideWords right bs₁) (λ r bs₂.
+    withSection (sectionIn fileSubjectWords subject bs₂) (λ s bs₃.
     need (eqb (length bs₃) 0) (some (file l r s)))))
 
 -- one version byte, 1
@@ -193,4 +193,4 @@ readLine a =
 
 -- the line for a file
 unfoldable pub planApply : List ℕ → List ℕ
-planApply bytes = readLine (readCall bytes (replicate sideWords 0) (replicate sideWords 0) (replicate subjectWords 0))
+planApply bytes = readLine (readCall bytes (replicate fileSideWords 0) (replicate fileSideWords 0) (replicate fileSubjectWords 0))

@@ -1,0 +1,1 @@
+// The demands, as statements in specs/ and their proofs in proofs/; no work of its own.
