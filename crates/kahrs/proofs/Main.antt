@@ -4,18 +4,18 @@ use mathlib.Core.Path.{_≡_, refl, sym, ap, _∙_}
 use mathlib.Core.Logic.{_⊎_, inl, inr}
 use Prim.Native.Nat.{ℕ, _≤_}
 use native.Mathlib.Omega.{arith}
-use mathlib.Core.Bool.{_&&_}
 use mathlib.Core.Option.{Option, none, some}
 use mathlib.Core.List.{List, [], _∷_}
 use lib.Dec.{T}
 use lib.ListN.{length}
 use Rattle.documents.specs.Terms.{Term, absts}
 use Rattle.documents.specs.Tables.{depth}
-use Rattle.documents.specs.Rules.{Val, Valuation, metas, among, contains, isSymbol, simple, closed, crsRule, metasubst}
+use Rattle.documents.specs.Rules.{Val, Valuation, metas, among, simple, closed, crsRule, metasubst}
 use Rattle.documents.specs.Instructions.{Program}
 use Rattle.documents.specs.Machine.{Entry, State, state, Outcome, done, fails, _>>=_, exec, start, run}
 use Rattle.documents.specs.Translation.{Row, Located, lookup, symbolTable, lhs, rhs, compile}
-use Rattle.documents.proofs.Lists.{never, of-and}
+use Rattle.documents.proofs.Lists.{never, T-of}
+use Rattle.documents.proofs.Numbers.{conditions}
 use Rattle.documents.proofs.Substitution.{rename-ext, rename-id}
 use Rattle.documents.proofs.Valuations.{bodiesOf, instance, metasubst-bodies}
 use Rattle.kahrs.proofs.RightSide.{exec-⧺, AllMetas, Below, rhs-runs}
@@ -107,12 +107,12 @@ module _ (l r : Term) (h : CrsRule l r) where
 -- the tests of 004's crs_rule, and a left side no deeper than 64, are enough
 pub crs-rule : (l r : Term) → T (crsRule l r) → depth l ≤ 64 → CrsRule l r
 crs-rule l r h d =
-    let known = contains (metas r) (metas l) in
-    let (h₃, p₅) = of-and (known && isSymbol l && closed l && closed r) (simple l) h in
-    let (h₂, p₄) = of-and (known && isSymbol l && closed l) (closed r) h₃ in
-    let (h₁, p₃) = of-and (known && isSymbol l) (closed l) h₂ in
-    let (p₁, p₂) = of-and known (isSymbol l) h₁ in
-    record { simple = simple-of 0 l p₅ (below-of-closed l p₃) (omega arith); closed = below-of-closed r p₄; known = known-of-contains l r p₁ }
+    let c = conditions l r h in
+    record {
+      simple = simple-of 0 l (T-of _ (c .leftSimple)) (below-of-closed l (T-of _ (c .leftClosed))) (omega arith);
+      closed = below-of-closed r (T-of _ (c .rightClosed));
+      known = known-of-contains l r (T-of _ (c .known));
+    }
 
 -- ---- In 004's words: valuations and metasubst
 

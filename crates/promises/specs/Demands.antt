@@ -4,20 +4,20 @@ use mathlib.Core.Logic.{_⊎_, _↔_}
 use Prim.Native.Nat.{ℕ, _/_, _≤_, _<_, min}
 use mathlib.Core.Bool.{not}
 use mathlib.Core.Option.{some}
-use mathlib.Core.List.{List, [], _∷_}
+use mathlib.Core.List.{List}
 use lib.Dec.{T, leb}
 use lib.ListN.{length}
 use Rattle.documents.specs.Limits.{planLimit, depthLimit, workingWords, indexLimit}
-use Rattle.documents.specs.Lists.{every, member}
+use Rattle.documents.specs.Lists.{every}
 use Rattle.documents.specs.Terms.{Term}
 use Rattle.documents.specs.Tables.{tableOf, nodes, depth, indices}
-use Rattle.documents.specs.Rules.{Val, Valuation, metasubst, metas, among, freevars}
+use Rattle.documents.specs.Rules.{Val, Valuation, metasubst, metas, among}
 use Rattle.documents.specs.Instructions.{Program, words, programIn}
-use Rattle.documents.specs.Machine.{Entry, state, done, fails, run}
 use Rattle.documents.specs.Translation.{compile}
 use Rattle.documents.specs.Passing.{passes}
 use Rattle.documents.specs.Numbers.{answered, rule, ruleIn, subjectIn}
 use Rattle.documents.specs.Calls.{atFront, compileCall, checkCall, runCall}
+use Rattle.safety.specs.Finishes.{Finishes}
 
 -- 'the code that Kahrs's translation gives, in our word layout'
 abbrev pub codeOf : Term → Term → List ℕ
@@ -72,12 +72,6 @@ pub record Demand2 : Type 0 where
       ↔ ((TooLarge (length result) (metasubst v r) → ⊥) × (TooDeep (metasubst v r) → ⊥) × IndexTooLarge (metasubst v r)))
 
 -- ---- Demand 3
-
--- A match instruction fails, or the run ends with one finished term, and every variable free there is free in the subject. In neither case was
--- there an instruction that has no step.
-abbrev pub Finishes : Program → Term → Type 0
-Finishes c t =
-    (run c t ≡ fails) ⊎ ((u : Term) × (env : List Entry) × T (every (member (freevars t)) (freevars u)) × (run c t ≡ done (state [] env (u ∷ []) 0 [])))
 
 pub record Demand3 : Type 0 where
   -- 'Code that passes the check, run on any accepted subject by the paper's machine without our result limits, ..'

@@ -10,7 +10,7 @@ use mathlib.Core.List.{List, [], _∷_}
 use lib.Dec.{T, leb}
 use lib.ListN.{length}
 use Rattle.documents.specs.Limits.{codeLimit}
-use Rattle.documents.specs.Lists.{every, member}
+use Rattle.documents.specs.Lists.{member}
 use Rattle.documents.specs.Terms.{Term}
 use Rattle.documents.specs.Rules.{freevars}
 use Rattle.documents.specs.Instructions.{End, _▸_, Program, programIn}
@@ -19,6 +19,7 @@ use Rattle.documents.specs.Passing.{Matching, matching, matchStep, isMatch, bui
 use Rattle.documents.proofs.Lists.{case, of-and}
 use Rattle.documents.proofs.Substitution.{rename-ext, rename-id}
 use Rattle.documents.proofs.FreeVariables.{AllFree, every-of-free, free-in-itself}
+use Rattle.safety.specs.Finishes.{Finishes}
 use Rattle.safety.proofs.Building.{makes-one-term}
 use Rattle.safety.proofs.Matching.{Agrees, agrees-at-start, matches-as-checked, goes-then}
 
@@ -57,11 +58,6 @@ module _ (Sub : ℕ → Type 0) where
   pub never-stuck : (c : Program) (t : Term) → T (obeys c) → AllFree Sub t
       → (run c t ≡ fails) ⊎ ((u : Term) × (env : List Entry) × AllFree Sub u × (run c t ≡ done (state [] env (u ∷ []) 0 [])))
   never-stuck c t p f = parts-ends c (matching (0 ∷ []) [] []) (current 0 0 t ∷ []) [] p (agrees-at-start Sub t f)
-
--- a match instruction fails, or one finished term is left, each of whose free variables is free in t
-abbrev pub Finishes : Program → Term → Type 0
-Finishes c t =
-    (run c t ≡ fails) ⊎ ((u : Term) × (env : List Entry) × T (every (member (freevars t)) (freevars u)) × (run c t ≡ done (state [] env (u ∷ []) 0 [])))
 
 pub obeying-finishes : (c : Program) (t : Term) → T (obeys c) → Finishes c t
 obeying-finishes c t p = go (never-stuck (λ x. T (member (freevars t) x)) c t p (free-in-itself t))
