@@ -47,9 +47,13 @@ branch {A} {P} w k {x} {y} {r} e f g = go (eqb w k) refl e
     go true q e = f (eqb-true w k q) e
     go false q e = g e
 
-and-assoc : (a b c : Bool) → a && (b && c) ≡ (a && b) && c
+pub and-assoc : (a b c : Bool) → a && (b && c) ≡ (a && b) && c
 and-assoc true b c = refl
 and-assoc false b c = refl
+
+pub and-true : (a : Bool) → a && true ≡ a
+and-true true = refl
+and-true false = refl
 
 pub every-append : {A : Type 0} (p : A → Bool) (l m : List A) → every p (l ++ m) ≡ every p l && every p m
 every-append p [] m = refl

@@ -9,8 +9,8 @@ use borrow.Author.Tests.{lt-ltb}
 use Rattle.documents.specs.Lists.{every, member}
 use Rattle.documents.specs.Terms.{Sort, Tm, Var, Sym, Meta, Abst, Nil, Cons, rename}
 use Rattle.documents.specs.Rules.{fv}
-use Rattle.documents.specs.Machine.{isVar, isSym, isMeta, isAbst, isNil, isCons, equal, renaming}
-use Rattle.documents.proofs.Lists.{every-append}
+use Rattle.documents.specs.Machine.{isVar, isSym, isMeta, isAbst, isNil, isCons, equal, renaming, equalUnder}
+use Rattle.documents.proofs.Lists.{and-true, every-append}
 use Rattle.documents.proofs.Substitution.{renameUnders}
 
 -- ---- CHECK
@@ -26,11 +26,7 @@ check vs n (Cons t ts) = check vs n t && check vs n ts
 
 check-var : (p : ℕ → Bool) (q : Bool) (y : ℕ) → (q || p y) ≡ every p (cond q [] (y ∷ []))
 check-var p true y = refl
-check-var p false y = and-true (p y)
-  where
-    and-true : (b : Bool) → b ≡ b && true
-    and-true true = refl
-    and-true false = refl
+check-var p false y = sym (and-true (p y))
 
 pub check-is : {s : Sort} (vs : List ℕ) (n : ℕ) (t : Tm s) → check vs n t ≡ every (λ y. not (member vs y)) (fv n t)
 check-is vs n (Var k) = check-var (λ y. not (member vs y)) (ltb k n) (k - n)
@@ -42,16 +38,7 @@ check-is vs n (Cons t ts) = ap₂ _&&_ (check-is vs n t) (check-is vs n ts) ∙ 
 
 -- ---- EQI
 
--- 004's equal k, with `.. + k = y` for its `.. = y - k`
-abbrev equalUnder : {s : Sort} → List (ℕ × ℕ) → ℕ → ℕ → Tm s → Tm s → Bool
-equalUnder ps D k (Var x) u = isVar (cond (ltb x k) x (renaming ps D (x - k) + k)) u
-equalUnder ps D k (Sym s ts) u = isSym s (equalUnder ps D k ts) u
-equalUnder ps D k (Meta z ts) u = isMeta z (equalUnder ps D k ts) u
-equalUnder ps D k (Abst t) u = isAbst (equalUnder ps D (suc k) t) u
-equalUnder ps D k Nil us = isNil us
-equalUnder ps D k (Cons t ts) us = isCons (equalUnder ps D k t) (equalUnder ps D k ts) us
-
-under-var : (f : ℕ → ℕ) (k x : ℕ) → cond (ltb x k) x (f (x - k) + k) ≡ renameUnders k f x
+pub under-var : (f : ℕ → ℕ) (k x : ℕ) → cond (ltb x k) x (f (x - k) + k) ≡ renameUnders k f x
 under-var f zero x = let e : x - 0 ≡ x = omega arith in let g : f x + 0 ≡ f x = omega arith in rw (leb·suc-zero x, e, g)
 under-var f (suc k) zero = let h : 0 < suc k = omega arith in rw (lt-ltb 0 (suc k) h)
 under-var f (suc k) (suc x) =

@@ -94,7 +94,7 @@ pub record Grabbed (c : ℕ) (us r : List Term) (k : Terms → List Term → Opt
   pub count : len arguments ≡ c
   pub gives : k arguments rest ≡ some r
 
-grabbed : (c : ℕ) (us r : List Term) (k : Terms → List Term → Option (List Term)) → grab c us k ≡ some r → Grabbed c us r k
+pub grabbed : (c : ℕ) (us r : List Term) (k : Terms → List Term → Option (List Term)) → grab c us k ≡ some r → Grabbed c us r k
 grabbed zero us r k e = record { arguments = Nil; rest = us; whole = refl; count = refl; gives = e }
 grabbed (suc c) [] r k e = never (cc)
 grabbed (suc c) (u ∷ us) r k e =
@@ -157,6 +157,11 @@ single-is : (us : List Term) (t : Term) → single us ≡ some t → us ≡ t �
 single-is [] t e = never (cc)
 single-is (u ∷ []) t e = let q : u ≡ t = cc in rw q
 single-is (u ∷ v ∷ us) t e = never (cc)
+
+-- terms that fit are what their tables hold
+pub termsIn-tablesOf : (us : List Term) → AllFit us → termsIn (tablesOf us) ≡ some us
+termsIn-tablesOf [] h = refl
+termsIn-tablesOf (u ∷ us) h = rw (termsIn-tableOf u (tablesOf us) (h .0), termsIn-tablesOf us (h .1))
 
 -- the term of a good table has that table, and fits
 pub tableOf-termIn : (ws : List ℕ) (t : Term) → termIn ws ≡ some t → (tableOf t ≡ ws) × Fits t

@@ -127,6 +127,16 @@ orMoved (some x) D y = x
 abbrev pub renaming : List (ℕ × ℕ) → ℕ → ℕ → ℕ
 renaming ps D y = orMoved (assoc ps y) D y
 
+-- 004's equal k: the comparison as it goes on below k abstractions, with `.. + k = y` for its `.. = y - k`. (Law `equal-is`: it is that of the
+-- renamed entry.)
+abbrev pub equalUnder : {s : Sort} → List (ℕ × ℕ) → ℕ → ℕ → Tm s → Tm s → Bool
+equalUnder ps D k (Var x) u = isVar (cond (ltb x k) x (renaming ps D (x - k) + k)) u
+equalUnder ps D k (Sym s ts) u = isSym s (equalUnder ps D k ts) u
+equalUnder ps D k (Meta z ts) u = isMeta z (equalUnder ps D k ts) u
+equalUnder ps D k (Abst t) u = isAbst (equalUnder ps D (suc k) t) u
+equalUnder ps D k Nil us = isNil us
+equalUnder ps D k (Cons t ts) us = isCons (equalUnder ps D k t) (equalUnder ps D k ts) us
+
 -- EQI: the entry, renamed, is the current term; it needs a first index for each variable
 abbrev pub eqi : ℕ → List (ℕ × ℕ) → Entry → Term → State → Outcome State
 eqi D ps (entry b a) t σ = cond (every (placed (firsts ps) b D) (freevars a)) (test (equal (rename (renaming ps D) a) t) σ) noStep

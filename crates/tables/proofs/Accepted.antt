@@ -1,0 +1,342 @@
+-- The table check. `termIn` reads a table from its end; `holds` counts the terms, so that a walk from the front, with a running count of those
+-- still owed, decides the same. Then the depth, level by level, and what an accepted table holds.
+use mathlib.Core.Path.{_≡_, refl, sym, ap, _∙_}
+use Prim.Native.Nat.{ℕ, zero, suc, _+_, _-_, _*_, _/_, _%_, _≤_, _<_, max}
+use native.Mathlib.Nat.{add-zero}
+use native.Mathlib.Omega.{arith}
+use mathlib.Core.Bool.{Bool, true, false, _&&_}
+use mathlib.Core.Option.{Option, none, some}
+use mathlib.Core.List.{List, [], _∷_, append-nil}
+use lib.Dec.{eqb, leb, eqb·suc-suc, eqb·zero-suc, eqb·suc-zero}
+use lib.ListN.{length, drop, getD, length-drop}
+use borrow.Author.Tests.{le-leb, lt-leb, eq-eqb, ne-eqb, eqb-true, leb-true, leb-false}
+use Rattle.documents.specs.Limits.{argumentLimit, planLimit, depthLimit}
+use Rattle.documents.specs.Lists.{need, andThen, isEmpty}
+use Rattle.documents.specs.Terms.{many, Var, Sym, Meta, Abst, Nil, Cons, Term, Terms, len}
+use Rattle.documents.specs.Tables.{other, kindOf, grab, abstract, node, termsIn, single, termIn, tableOf, Fits, nodes, depth}
+use Rattle.documents.proofs.Lists.{never, on, T-of, of-and}
+use Rattle.documents.proofs.Tables.{tableOf-termIn, length-tableOf, termsIn-tablesOf}
+use Rattle.tables.specs.Parts.{held, terms, front, Begins, wordCount}
+use Rattle.documents.specs.declared.Refusal.{Refusal}
+use Rattle.documents.specs.declared.Refusal.the-variants as refusal
+use Rattle.documents.specs.Rules.{metas}
+use Rattle.tables.specs.declared.accept.Sized.the-variants.{Nodes, Refused}
+use Rattle.documents.specs.Numbers.{Answer, answered, refused, unless, orRefuse, with, tableIn, subjectIn}
+use Rattle.documents.proofs.Numbers.{Held, tableIn-held}
+use Rattle.tables.specs.Answers.{sized, isThere, isGood, fitsKind, inLayout}
+use Rattle.tables.proofs.Parts.{only, headed, Shape, two, no-terms, front-term}
+use Rattle.tables.proofs.Walks.{AtNode, at-node, Walk}
+
+-- ---- The layout of a node
+
+kind-other : (k : ℕ) → 4 ≤ k → kindOf k ≡ other
+kind-other zero h = absurd (omega arith)
+kind-other (suc zero) h = absurd (omega arith)
+kind-other (suc (suc zero)) h = absurd (omega arith)
+kind-other (suc (suc (suc zero))) h = absurd (omega arith)
+kind-other (suc (suc (suc (suc k)))) h = refl
+
+module _ (w c : ℕ) where
+  pub layout-variable : w < 65536 → inLayout w c ≡ eqb c 0
+  unfolding inLayout
+  layout-variable h = let e : w / 65536 ≡ 0 = omega arith in rw e
+
+  pub layout-applied : 65536 ≤ w → w < 196608 → inLayout w c ≡ leb c argumentLimit
+  unfolding inLayout
+  layout-applied h k = go (w / 65536) (omega arith) (omega arith)
+    where
+      go : (k : ℕ) → 1 ≤ k → k < 3 → fitsKind (kindOf k) (w % 65536) c ≡ leb c argumentLimit
+      go zero p q = absurd (omega arith)
+      go (suc zero) p q = refl
+      go (suc (suc zero)) p q = refl
+      go (suc (suc (suc k))) p q = absurd (omega arith)
+
+  pub layout-abstraction : w ≡ 196608 → inLayout w c ≡ eqb c 1
+  unfolding inLayout
+  layout-abstraction h = rw h
+
+  pub layout-other : 196608 ≤ w → ((w ≡ 196608) → ⊥) → inLayout w c ≡ false
+  unfolding inLayout
+  layout-other h k = go (w / 65536) (w % 65536) (omega arith) (omega arith)
+    where
+      go : (k s : ℕ) → 3 ≤ k → ((k ≡ 3) → (s ≡ 0) → ⊥) → fitsKind (kindOf k) s c ≡ false
+      go zero s p q = absurd (omega arith)
+      go (suc zero) s p q = absurd (omega arith)
+      go (suc (suc zero)) s p q = absurd (omega arith)
+      go (suc (suc (suc zero))) s p q = rw (ne-eqb s 0 (q refl)) refl
+      go (suc (suc (suc (suc k)))) s p q = refl
+
+  pub layout-narrow : inLayout w c ≡ true → c ≤ argumentLimit
+  unfolding inLayout
+  layout-narrow e = go (w / 65536) (w % 65536) e
+    where
+      go : (k s : ℕ) → fitsKind (kindOf k) s c ≡ true → c ≤ argumentLimit
+      go zero s e = let z = eqb-true c 0 e in omega arith
+      go (suc zero) s e = leb-true c argumentLimit e
+      go (suc (suc zero)) s e = leb-true c argumentLimit e
+      go (suc (suc (suc zero))) s e = let z = eqb-true c 1 (on (eqb c 1) (of-and (eqb s 0) (eqb c 1) (T-of _ e) .1)) in omega arith
+      go (suc (suc (suc (suc k)))) s e = never (cc)
+
+-- ---- Terms that are held, counted
+
+abbrev pub holds : ℕ → Option (List Term) → Bool
+holds n none = false
+holds n (some us) = eqb n (length us)
+
+pub good-start : (t : List ℕ) → isGood t ≡ holds 1 (termsIn t)
+unfolding isGood
+good-start t = go (termsIn t)
+  where
+    go : (o : Option (List Term)) → isThere (andThen o single) ≡ holds 1 o
+    go none = refl
+    go (some []) = refl
+    go (some (u ∷ [])) = refl
+    go (some (u ∷ v ∷ us)) = sym (ne-eqb 1 (suc (suc (length us))) (λ e. omega arith))
+
+grab-holds : (c m : ℕ) (vs : List Term) (f : Terms → Term) → holds (suc m) (grab c vs (λ ts rest. some (f ts ∷ rest))) ≡ eqb (m + c) (length vs)
+grab-holds zero m vs f = rw (eqb·suc-suc m (length vs), add-zero) refl
+grab-holds (suc c) m [] f = sym (ne-eqb (m + suc c) 0 (λ e. omega arith))
+grab-holds (suc c) m (v ∷ vs) f =
+    let e : m + suc c ≡ suc (m + c) = omega arith in
+    grab-holds c m vs (λ ts. f (Cons v ts)) ∙ rw (e, eqb·suc-suc (m + c) (length vs)) refl
+
+node-counted : (k s c m : ℕ) (vs : List Term) → fitsKind (kindOf k) s c ≡ true → holds (suc m) (node (kindOf k) s c vs) ≡ eqb (m + c) (length vs)
+node-counted zero s c m vs e = let z = eqb-true c 0 e in rw (e, z, eqb·suc-suc m (length vs), add-zero) refl
+node-counted (suc zero) s c m vs e = rw e (grab-holds c m vs (Sym s))
+node-counted (suc (suc zero)) s c m vs e = rw e (grab-holds c m vs (Meta s))
+node-counted (suc (suc (suc zero))) s c m vs e = go (eqb s 0) (eqb c 1) e (eqb-true c 1) vs
+  where
+    go : (p q : Bool) → (p && q) ≡ true → (q ≡ true → c ≡ 1) → (vs : List Term) → holds (suc m) (need p (need q (abstract vs))) ≡ eqb (m + c) (length vs)
+    go true true e f [] = rw (f refl) (sym (ne-eqb (m + 1) 0 (λ e. omega arith)))
+    go true true e f (v ∷ vs) =
+        let z : m + 1 ≡ suc m = omega arith in
+        rw (f refl, z) refl
+    go true false e f vs = never (cc)
+    go false q e f vs = never (cc)
+node-counted (suc (suc (suc (suc k)))) s c m vs e = never (cc)
+
+node-outside : (k s c n : ℕ) (vs : List Term) → fitsKind (kindOf k) s c ≡ false → holds n (node (kindOf k) s c vs) ≡ false
+node-outside zero s c n vs e = rw e refl
+node-outside (suc zero) s c n vs e = rw e refl
+node-outside (suc (suc zero)) s c n vs e = rw e refl
+node-outside (suc (suc (suc zero))) s c n vs e = go (eqb s 0) (eqb c 1) e
+  where
+    go : (p q : Bool) → (p && q) ≡ false → holds n (need p (need q (abstract vs))) ≡ false
+    go true true e = never (cc)
+    go true false e = refl
+    go false q e = refl
+node-outside (suc (suc (suc (suc k)))) s c n vs e = refl
+
+grab-some : (c : ℕ) (vs : List Term) (f : Terms → Term) → holds 0 (grab c vs (λ ts rest. some (f ts ∷ rest))) ≡ false
+grab-some zero vs f = eqb·zero-suc (length vs)
+grab-some (suc c) [] f = refl
+grab-some (suc c) (v ∷ vs) f = grab-some c vs (λ ts. f (Cons v ts))
+
+need-false : (q : Bool) (o : Option (List Term)) → holds 0 o ≡ false → holds 0 (need q o) ≡ false
+need-false true o e = e
+need-false false o e = refl
+
+-- a node is the start of a term
+node-some : (k s c : ℕ) (vs : List Term) → holds 0 (node (kindOf k) s c vs) ≡ false
+node-some zero s c vs = need-false (eqb c 0) (some (Var s ∷ vs)) (eqb·zero-suc (length vs))
+node-some (suc zero) s c vs = need-false (leb c argumentLimit) _ (grab-some c vs (Sym s))
+node-some (suc (suc zero)) s c vs = need-false (leb c argumentLimit) _ (grab-some c vs (Meta s))
+node-some (suc (suc (suc zero))) s c vs = need-false (eqb s 0) _ (need-false (eqb c 1) (abstract vs) (one-more vs))
+  where
+    one-more : (vs : List Term) → holds 0 (abstract vs) ≡ false
+    one-more [] = refl
+    one-more (v ∷ vs) = eqb·zero-suc (length vs)
+node-some (suc (suc (suc (suc k)))) s c vs = refl
+
+-- ---- The walk from the front, in the code's form
+
+module _ (t : List ℕ) (a : ℕ) where
+  pub good-node : (n : ℕ) → a + 2 ≤ length t → 0 < n → inLayout (getD t a 0) (getD t (a + 1) 0) ≡ true
+      → holds n (termsIn (drop a t)) ≡ holds (n - 1 + getD t (a + 1) 0) (termsIn (drop (a + 2) t))
+  unfolding inLayout
+  good-node n l h e = rw (two t a l) (go n h (termsIn (drop (a + 2) t)))
+    where
+      go : (n : ℕ) → 0 < n → (o : Option (List Term))
+          → holds n (andThen o (node (kindOf (getD t a 0 / 65536)) (getD t a 0 % 65536) (getD t (a + 1) 0))) ≡ holds (n - 1 + getD t (a + 1) 0) o
+      go zero h o = absurd (omega arith)
+      go (suc n) h none = refl
+      go (suc n) h (some vs) =
+          let m : suc n - 1 + getD t (a + 1) 0 ≡ n + getD t (a + 1) 0 = omega arith in
+          rw m (node-counted (getD t a 0 / 65536) (getD t a 0 % 65536) (getD t (a + 1) 0) n vs e)
+
+  pub good-outside : (n : ℕ) → a + 2 ≤ length t → inLayout (getD t a 0) (getD t (a + 1) 0) ≡ false → holds n (termsIn (drop a t)) ≡ false
+  unfolding inLayout
+  good-outside n l e = rw (two t a l) (go (termsIn (drop (a + 2) t)))
+    where
+      go : (o : Option (List Term)) → holds n (andThen o (node (kindOf (getD t a 0 / 65536)) (getD t a 0 % 65536) (getD t (a + 1) 0))) ≡ false
+      go none = refl
+      go (some vs) = node-outside (getD t a 0 / 65536) (getD t a 0 % 65536) (getD t (a + 1) 0) n vs e
+
+  -- words are left, and no term is owed any more
+  pub good-more : (n : ℕ) → a + 2 ≤ length t → n ≡ 0 → holds n (termsIn (drop a t)) ≡ false
+  good-more n l z = rw (z, two t a l) (go (termsIn (drop (a + 2) t)))
+    where
+      go : (o : Option (List Term)) → holds 0 (andThen o (node (kindOf (getD t a 0 / 65536)) (getD t a 0 % 65536) (getD t (a + 1) 0))) ≡ false
+      go none = refl
+      go (some vs) = node-some (getD t a 0 / 65536) (getD t a 0 % 65536) (getD t (a + 1) 0) vs
+
+  -- one word is left
+  pub good-odd : (n : ℕ) → a + 1 ≡ length t → holds n (termsIn (drop a t)) ≡ false
+  good-odd n e = go (drop a t) (rw (length-drop a t) (omega arith))
+    where
+      go : (ws : List ℕ) → length ws ≡ 1 → holds n (termsIn ws) ≡ false
+      go [] e = absurd (omega arith)
+      go (w ∷ []) e = refl
+      go (w ∷ c ∷ ws) e = absurd (omega arith)
+
+  pub good-end : (n : ℕ) → length t ≤ a → holds n (termsIn (drop a t)) ≡ eqb n 0
+  good-end n e = go (drop a t) (rw (length-drop a t) (omega arith))
+    where
+      go : (ws : List ℕ) → length ws ≡ 0 → holds n (termsIn ws) ≡ eqb n 0
+      go [] e = refl
+      go (w ∷ ws) e = absurd (omega arith)
+
+-- ---- What a good table holds
+
+pub good-begins : (t : List ℕ) → isGood t ≡ true → Begins 1 t × (termIn t ≡ some (front t)) × (wordCount (front t) ≡ length t)
+unfolding isGood front held
+good-begins t e = go (termsIn t) refl e
+  where
+    go : (o : Option (List Term)) → termsIn t ≡ o → isThere (andThen o single) ≡ true → Begins 1 t × (termIn t ≡ some (front t)) × (wordCount (front t) ≡ length t)
+    go none p e = never (cc)
+    go (some []) p e = never (cc)
+    go (some (u ∷ [])) p e =
+        let r : termIn t ≡ some u = rw p refl in
+        let w = tableOf-termIn t u r .0 in
+        let l = length-tableOf u in
+        (record { whole = rw p refl; enough = rw p (omega arith) }, rw p refl, rw p (rw w at (sym l)))
+    go (some (u ∷ v ∷ us)) p e = never (cc)
+
+-- ---- Depth, level by level
+
+depth-headed : (k s : ℕ) (ts : Terms) → Shape k s ts → depth (headed k s ts) ≡ 1 + depth ts
+depth-headed zero s ts h = rw h refl
+depth-headed (suc zero) s ts h = omega arith
+depth-headed (suc (suc zero)) s ts h = omega arith
+depth-headed (suc (suc (suc zero))) s ts h =
+    let e : depth ts ≡ max (depth (only ts)) 0 = ap (λ (x : Terms). depth x) (h .1) in
+    omega arith
+depth-headed (suc (suc (suc (suc k)))) s ts h = absurd h
+
+leb-max : (x y l : ℕ) → leb (max x y) l ≡ leb x l && leb y l
+leb-max x y l = go (leb x l) (leb y l) refl refl
+  where
+    go : (p q : Bool) → leb x l ≡ p → leb y l ≡ q → leb (max x y) l ≡ p && q
+    go true true p q = let a = leb-true x l p in let b = leb-true y l q in le-leb (max x y) l (omega arith)
+    go true false p q = let b = leb-false y l q in lt-leb (max x y) l (omega arith)
+    go false q p _ = let a = leb-false x l p in lt-leb (max x y) l (omega arith)
+
+module _ {t : List ℕ} {a n : ℕ} (w : Walk t a n) (h : 0 < n) (levels : ℕ) where
+  deep-node : leb (depth (terms n (drop a t))) levels
+      ≡ leb (1 + depth (terms (getD t (a + 1) 0) (drop (a + 2) t))) levels
+        && leb (depth (terms (n - 1) (drop (a + 2 + wordCount (terms (getD t (a + 1) 0) (drop (a + 2) t))) t))) levels
+  deep-node =
+      let p = at-node t a n (w .begins) h in
+      rw (p .terms-are, depth-headed _ _ (terms (getD t (a + 1) 0) (drop (a + 2) t)) (p .shape)) (leb-max _ _ levels)
+
+  -- no level is left for a node
+  pub deep-none : levels ≡ 0 → leb (depth (terms n (drop a t))) levels ≡ false
+  deep-none z = deep-node ∙ rw (lt-leb (1 + depth (terms (getD t (a + 1) 0) (drop (a + 2) t))) levels (omega arith)) refl
+
+  pub deep-leaf : 0 < levels → getD t (a + 1) 0 ≡ 0 → leb (depth (terms n (drop a t))) levels ≡ leb (depth (terms (n - 1) (drop (a + 2) t))) levels
+  deep-leaf k z =
+      let e : terms (getD t (a + 1) 0) (drop (a + 2) t) ≡ Nil = rw z (no-terms (drop (a + 2) t)) in
+      rw (add-zero (a + 2), le-leb (1 + 0) levels k) at (rw e at deep-node)
+
+  pub deep-inside : 0 < levels → leb (depth (terms (getD t (a + 1) 0) (drop (a + 2) t))) (levels - 1) ≡ true
+      → leb (depth (terms n (drop a t))) levels ≡ leb (depth (terms (n - 1) (drop (a + 2 + wordCount (terms (getD t (a + 1) 0) (drop (a + 2) t))) t))) levels
+  deep-inside k e =
+      let d = leb-true (depth (terms (getD t (a + 1) 0) (drop (a + 2) t))) (levels - 1) e in
+      rw (le-leb (1 + depth (terms (getD t (a + 1) 0) (drop (a + 2) t))) levels (omega arith)) at deep-node
+
+  pub deep-too : 0 < levels → leb (depth (terms (getD t (a + 1) 0) (drop (a + 2) t))) (levels - 1) ≡ false → leb (depth (terms n (drop a t))) levels ≡ false
+  deep-too k e =
+      let d = leb-false (depth (terms (getD t (a + 1) 0) (drop (a + 2) t))) (levels - 1) e in
+      deep-node ∙ rw (lt-leb (1 + depth (terms (getD t (a + 1) 0) (drop (a + 2) t))) levels (omega arith)) refl
+
+-- ---- The whole check
+
+module _ (limit : ℕ) (t : List ℕ) where
+  pub accept-long : 2 * limit < length t → sized (tableIn limit t) ≡ Refused refusal.TooManyWords
+  unfolding tableIn
+  accept-long h = rw (lt-leb (length t) (2 * limit) h) refl
+
+  pub accept-bad : length t ≤ 2 * limit → isGood t ≡ false → sized (tableIn limit t) ≡ Refused refusal.TableNotGood
+  unfolding tableIn isGood
+  accept-bad h e = rw (le-leb (length t) (2 * limit) h) (go (termIn t) e)
+    where
+      go : (o : Option Term) → isThere o ≡ false
+          → sized (with (orRefuse o refusal.TableNotGood) (λ u. unless (leb (depth u) depthLimit) refusal.TooDeep (answered u))) ≡ Refused refusal.TableNotGood
+      go none e = refl
+      go (some u) e = never (cc)
+
+  good-answer : length t ≤ 2 * limit → isGood t ≡ true → tableIn limit t ≡ unless (leb (depth (front t)) depthLimit) refusal.TooDeep (answered (front t))
+  unfolding tableIn
+  good-answer h e = rw (le-leb (length t) (2 * limit) h, good-begins t e .1) refl
+
+  front-depth : isGood t ≡ true → depth (terms 1 t) ≡ depth (front t)
+  front-depth e =
+      let f : depth (terms 1 t) ≡ max (depth (front t)) 0 = ap (λ (x : Terms). depth x) (front-term t (good-begins t e .0)) in
+      omega arith
+
+  pub accept-deep : length t ≤ 2 * limit → isGood t ≡ true → leb (depth (terms 1 t)) depthLimit ≡ false → sized (tableIn limit t) ≡ Refused refusal.TooDeep
+  accept-deep h e d = rw (good-answer h e, ← (front-depth e), d) refl
+
+  pub accept-good : length t ≤ 2 * limit → isGood t ≡ true → leb (depth (terms 1 t)) depthLimit ≡ true → sized (tableIn limit t) ≡ Nodes (length t / 2)
+  accept-good h e d =
+      let w = good-begins t e .2 in
+      let n : nodes (front t) ≡ length t / 2 = omega arith in
+      rw (good-answer h e, ← (front-depth e), d) (ap Nodes n)
+
+-- ---- What callers know of an accepted table
+
+pub table-begins : (u : Term) (t : List ℕ) → tableOf u ≡ t → Fits u → Begins 1 t × (front t ≡ u)
+unfolding front held
+table-begins u t e f =
+    let p : termsIn t ≡ some (u ∷ []) = rw (← e, ← (append-nil (tableOf u))) (termsIn-tablesOf (u ∷ []) (f, tt)) in
+    (record { whole = rw p refl; enough = rw p (omega arith) }, rw p refl)
+
+pub record AcceptedTable (limit : ℕ) (t : List ℕ) (n : ℕ) : Type 0 where
+  pub begins : Begins 1 t
+  pub term : tableIn limit t ≡ answered (front t)
+  pub count : n ≡ nodes (front t)
+  pub words : length t ≡ wordCount (front t)
+
+pub accepted-table : (limit : ℕ) (t : List ℕ) (n : ℕ) → Nodes n ≡ sized (tableIn limit t) → AcceptedTable limit t n
+accepted-table limit t n e = go (tableIn limit t) refl e
+  where
+    go : (a : Answer Term) → tableIn limit t ≡ a → Nodes n ≡ sized a → AcceptedTable limit t n
+    go (refused r) p e = never (cc)
+    go (answered u) p e =
+        let h = tableIn-held limit t u p in
+        let b = table-begins u t (h .table) (h .fits) in
+        record {
+          begins = b .0;
+          term = p ∙ ap answered (sym (b .1));
+          count = rw (b .1) (cc);
+          words = rw (b .1) (sym (ap (λ (l : List ℕ). length l) (h .table)) ∙ length-tableOf u);
+        }
+
+-- ---- A subject
+
+pub subject-refused : (t : List ℕ) (r : Refusal) → Refused r ≡ sized (tableIn planLimit t) → sized (subjectIn t) ≡ Refused r
+unfolding subjectIn
+subject-refused t r e = go (tableIn planLimit t) e
+  where
+    go : (a : Answer Term) → Refused r ≡ sized a → sized (with a (λ u. unless (isEmpty (metas u)) refusal.MetavariableInSubject (answered u))) ≡ Refused r
+    go (answered u) e = never (cc)
+    go (refused q) e = sym e
+
+module _ {t : List ℕ} {n : ℕ} (a : AcceptedTable planLimit t n) where
+  pub subject-metavariable : isEmpty (metas (front t)) ≡ false → sized (subjectIn t) ≡ Refused refusal.MetavariableInSubject
+  unfolding subjectIn
+  subject-metavariable e = rw (a .term, e) refl
+
+  pub subject-plain : isEmpty (metas (front t)) ≡ true → sized (subjectIn t) ≡ Nodes n
+  unfolding subjectIn
+  subject-plain e = rw (a .term, e) (ap Nodes (sym (a .count)))

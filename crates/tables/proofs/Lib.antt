@@ -1,0 +1,6 @@
+pub mod Parts
+pub mod Walks
+pub mod Accepted
+pub mod Free
+pub mod Renamed
+pub mod Sides
