@@ -4,28 +4,29 @@ use mathlib.Core.Path.{_≡_, refl, sym, ap, _∙_}
 use Prim.Native.Nat.{ℕ, zero, suc, _+_, _-_, _*_, _/_, _%_, _≤_, _<_, max}
 use native.Mathlib.Nat.{add-zero}
 use native.Mathlib.Omega.{arith}
-use mathlib.Core.Bool.{Bool, true, false, _&&_}
+use mathlib.Core.Bool.{Bool, true, false, _&&_, cond}
 use mathlib.Core.Option.{Option, none, some}
-use mathlib.Core.List.{List, [], _∷_, append-nil}
-use lib.Dec.{eqb, leb, eqb·suc-suc, eqb·zero-suc, eqb·suc-zero}
+use mathlib.Core.List.{List, [], _∷_, _++_, append-nil}
+use lib.Dec.{eqb, leb, ltb, eqb·suc-suc, eqb·zero-suc}
 use lib.ListN.{length, drop, getD, length-drop}
-use borrow.Author.Tests.{le-leb, lt-leb, eq-eqb, ne-eqb, eqb-true, leb-true, leb-false}
+use lib.Seq.{drop-at}
+use borrow.Author.Tests.{le-leb, lt-leb, ne-eqb, eqb-true, leb-true, leb-false}
 use Rattle.documents.specs.Limits.{argumentLimit, planLimit, depthLimit}
 use Rattle.documents.specs.Lists.{need, andThen, isEmpty}
-use Rattle.documents.specs.Terms.{many, Var, Sym, Meta, Abst, Nil, Cons, Term, Terms, len}
-use Rattle.documents.specs.Tables.{other, kindOf, grab, abstract, node, termsIn, single, termIn, tableOf, Fits, nodes, depth}
-use Rattle.documents.proofs.Lists.{never, on, T-of, of-and}
-use Rattle.documents.proofs.Tables.{tableOf-termIn, length-tableOf, termsIn-tablesOf}
-use Rattle.tables.specs.Parts.{held, terms, front, Begins, wordCount}
+use Rattle.documents.specs.Terms.{Sort, Tm, Var, Sym, Meta, Abst, Nil, Cons, Term, Terms}
+use Rattle.documents.specs.Tables.{other, kindOf, grab, abstract, node, termsIn, single, termIn, tableOf, Fits, nodes, depth, subterm}
 use Rattle.documents.specs.declared.Refusal.{Refusal}
-use Rattle.documents.specs.declared.Refusal.the-variants as refusal
 use Rattle.documents.specs.Rules.{metas}
-use Rattle.tables.specs.declared.accept.Sized.the-variants.{Nodes, Refused}
 use Rattle.documents.specs.Numbers.{Answer, answered, refused, unless, orRefuse, with, tableIn, subjectIn}
-use Rattle.documents.proofs.Numbers.{Held, tableIn-held}
+use Rattle.documents.proofs.Lists.{never, on, T-of, of-and, andThen-is}
+use Rattle.documents.proofs.Tables.{tableOf-termIn, length-tableOf, termsIn-tableOf, termsIn-tablesOf, subterm-place}
+use Rattle.documents.proofs.Numbers.{tableIn-held}
+use Rattle.tables.specs.Parts.{held, terms, front, Begins, wordCount}
+use Rattle.tables.specs.declared.accept.Sized.the-variants.{Nodes, Refused}
 use Rattle.tables.specs.Answers.{sized, isThere, isGood, fitsKind, inLayout}
 use Rattle.tables.proofs.Parts.{only, headed, Shape, two, no-terms, front-term}
-use Rattle.tables.proofs.Walks.{AtNode, at-node, Walk}
+use Rattle.tables.proofs.Walks.{at-node, Walk}
+use Rattle.documents.specs.declared.Refusal.the-variants as refusal
 
 -- ---- The layout of a node
 
@@ -234,7 +235,7 @@ leb-max x y l = go (leb x l) (leb y l) refl refl
 module _ {t : List ℕ} {a n : ℕ} (w : Walk t a n) (h : 0 < n) (levels : ℕ) where
   deep-node : leb (depth (terms n (drop a t))) levels
       ≡ leb (1 + depth (terms (getD t (a + 1) 0) (drop (a + 2) t))) levels
-        && leb (depth (terms (n - 1) (drop (a + 2 + wordCount (terms (getD t (a + 1) 0) (drop (a + 2) t))) t))) levels
+      && leb (depth (terms (n - 1) (drop (a + 2 + wordCount (terms (getD t (a + 1) 0) (drop (a + 2) t))) t))) levels
   deep-node =
       let p = at-node t a n (w .begins) h in
       rw (p .terms-are, depth-headed _ _ (terms (getD t (a + 1) 0) (drop (a + 2) t)) (p .shape)) (leb-max _ _ levels)
@@ -305,7 +306,8 @@ pub record AcceptedTable (limit : ℕ) (t : List ℕ) (n : ℕ) : Type 0 where
   pub begins : Begins 1 t
   pub term : tableIn limit t ≡ answered (front t)
   pub count : n ≡ nodes (front t)
-  pub words : length t ≡ wordCount (front t)
+  pub table : tableOf (front t) ≡ t
+  pub fits : Fits (front t)
 
 pub accepted-table : (limit : ℕ) (t : List ℕ) (n : ℕ) → Nodes n ≡ sized (tableIn limit t) → AcceptedTable limit t n
 accepted-table limit t n e = go (tableIn limit t) refl e
@@ -319,8 +321,52 @@ accepted-table limit t n e = go (tableIn limit t) refl e
           begins = b .0;
           term = p ∙ ap answered (sym (b .1));
           count = rw (b .1) (cc);
-          words = rw (b .1) (sym (ap (λ (l : List ℕ). length l) (h .table)) ∙ length-tableOf u);
+          table = rw (b .1) (h .table);
+          fits = rw (b .1) (h .fits);
         }
+
+fits-subterm : {s : Sort} (t : Tm s) (n : ℕ) (u : Term) → Fits t → subterm t n ≡ some u → Fits u
+fits-subterm (Var x) zero u f e = let q : Var x ≡ u = cc in rw (← q) f
+fits-subterm (Var x) (suc n) u f e = never (cc)
+fits-subterm (Sym s ts) zero u f e = let q : Sym s ts ≡ u = cc in rw (← q) f
+fits-subterm (Sym s ts) (suc n) u f e = fits-subterm ts n u (f .2) e
+fits-subterm (Meta z ts) zero u f e = let q : Meta z ts ≡ u = cc in rw (← q) f
+fits-subterm (Meta z ts) (suc n) u f e = fits-subterm ts n u (f .2) e
+fits-subterm (Abst t) zero u f e = let q : Abst t ≡ u = cc in rw (← q) f
+fits-subterm (Abst t) (suc n) u f e = fits-subterm t n u f e
+fits-subterm Nil n u f e = never (cc)
+fits-subterm (Cons t ts) n u f e = go (ltb n (nodes t)) (fits-subterm t n u (f .0)) (fits-subterm ts (n - nodes t) u (f .1)) e
+  where
+    go : (q : Bool) → (subterm t n ≡ some u → Fits u) → (subterm ts (n - nodes t) ≡ some u → Fits u)
+        → cond q (subterm t n) (subterm ts (n - nodes t)) ≡ some u → Fits u
+    go true f g e = f e
+    go false f g e = g e
+
+-- behind whole nodes the words hold terms, if all of them do
+behind-held : (before ws : List ℕ) (n : ℕ) (us : List Term) → length before ≡ 2 * n → termsIn (before ++ ws) ≡ some us → (vs : List Term) × (termsIn ws ≡ some vs)
+behind-held [] ws n us l e = (us, e)
+behind-held (w ∷ []) ws n us l e = absurd (omega arith)
+behind-held (w ∷ c ∷ before) ws zero us l e = absurd (omega arith)
+behind-held (w ∷ c ∷ before) ws (suc n) us l e =
+    let p = andThen-is (termsIn (before ++ ws)) _ us e in
+    behind-held before ws n (p .0) (omega arith) (p .1)
+
+front-is : (u : Term) (ws : List ℕ) (vs : List Term) → Fits u → termsIn (tableOf u ++ ws) ≡ some vs → Begins 1 (tableOf u ++ ws) × (front (tableOf u ++ ws) ≡ u)
+unfolding front held
+front-is u ws vs f e =
+    let p = andThen-is (termsIn ws) _ vs (sym (termsIn-tableOf u ws f) ∙ e) in
+    let q : termsIn (tableOf u ++ ws) ≡ some (u ∷ p .0) = termsIn-tableOf u ws f ∙ ap (λ (o : Option (List Term)). andThen o (λ us. some (u ∷ us))) (p .1) in
+    (record { whole = rw q refl; enough = rw q (omega arith) }, rw q refl)
+
+-- The part that starts at a node begins with the subterm there: what each walk asks of its caller.
+pub accepted-part : {limit : ℕ} {t : List ℕ} {k : ℕ} (n : ℕ) (u : Term) → AcceptedTable limit t k → subterm (front t) n ≡ some u
+    → Begins 1 (drop (2 * n) t) × (front (drop (2 * n) t) ≡ u)
+accepted-part {limit} {t} {k} n u a e =
+    let p = subterm-place (front t) n u e in
+    let w : t ≡ p .before ++ (tableOf u ++ p .behind) = sym (a .table) ∙ p .whole in
+    let d : drop (2 * n) t ≡ tableOf u ++ p .behind = ap (drop (2 * n)) w ∙ (drop-at (p .before) (tableOf u ++ p .behind) (2 * n) (p .start)) in
+    let v = behind-held (p .before) (tableOf u ++ p .behind) n (held t) (p .start) (ap termsIn (sym w) ∙ a .begins .whole) in
+    rw d (front-is u (p .behind) (v .0) (fits-subterm (front t) n u (a .fits) e) (v .1))
 
 -- ---- A subject
 

@@ -1,7 +1,7 @@
 -- Free variables that are marked, as a walk of a part sees them: at each node, whether one is met before it or behind it. And what the marks of a
 -- list, and marks everywhere, say of an index.
-use mathlib.Core.Path.{_≡_, refl, sym, ap, ap₂, _∙_, fun-ext}
-use Prim.Native.Nat.{ℕ, zero, suc, _+_, _-_, _*_, _/_, _%_, _≤_, _<_, min}
+use mathlib.Core.Path.{_≡_, refl, sym, ap, _∙_, fun-ext}
+use Prim.Native.Nat.{ℕ, zero, suc, _+_, _-_, _/_, _%_, _≤_, _<_, min}
 use native.Mathlib.Numerals.{add-one}
 use native.Mathlib.Omega.{arith}
 use mathlib.Core.Bool.{Bool, true, false, not, _&&_, _||_, cond}
@@ -9,9 +9,9 @@ use mathlib.Core.List.{List, [], _∷_, _++_, append-assoc, append-nil}
 use lib.Dec.{eqb, ltb}
 use lib.ListN.{length, drop, getD, set, replicate, length-set, length-replicate, getD-replicate, drop-of-length-le}
 use lib.Seq.{getD-set-same, getD-set-other, drop-cons}
-use borrow.Author.Tests.{lt-ltb, le-ltb, ltb-true, eqb-true, eqb-false, eq-eqb, ne-eqb}
+use borrow.Author.Tests.{lt-ltb, le-ltb, ltb-true, eqb-true, eqb-false}
 use Rattle.documents.specs.Lists.{every, member, isEmpty}
-use Rattle.documents.specs.Terms.{Var, Sym, Meta, Abst, Nil, Cons, Term, Terms}
+use Rattle.documents.specs.Terms.{Var, Nil, Cons, Term, Terms}
 use Rattle.documents.specs.Rules.{fv, freevars, closed}
 use Rattle.documents.proofs.Lists.{on, T-of, of-and, and-true, every-append}
 use Rattle.tables.specs.Parts.{terms, front, Begins, wordCount}
@@ -47,11 +47,14 @@ look-front {part} f j b = rw (front-term part b, append-nil (fv j (front part)))
 module _ {t : List ℕ} {a n : ℕ} (w : Walk t a n) (h : 0 < n) (marks : List ℕ) (j : ℕ) where
   look-variable : getD t a 0 < 65536
       → every (unmarked marks) (fv j (terms n (drop a t)))
-        ≡ not (marked marks j (getD t a 0)) && every (unmarked marks) (fv j (terms (n - 1) (drop (a + 2) t)))
+      ≡ not (marked marks j (getD t a 0)) && every (unmarked marks) (fv j (terms (n - 1) (drop (a + 2) t)))
   look-variable v =
       let p = at-variable t a n (w .begins) h v in
-      rw (p .terms-are, every-append (unmarked marks) (fv j (Var (getD t a 0))) (fv j (terms (n - 1) (drop (a + 2) t))),
-          every-variable (unmarked marks) (ltb (getD t a 0) j) (getD t a 0 - j)) refl
+      rw (
+        p .terms-are,
+        every-append (unmarked marks) (fv j (Var (getD t a 0))) (fv j (terms (n - 1) (drop (a + 2) t))),
+        every-variable (unmarked marks) (ltb (getD t a 0) j) (getD t a 0 - j),
+      ) refl
 
   pub look-unmarked : getD t a 0 < 65536 → marked marks j (getD t a 0) ≡ false
       → every (unmarked marks) (fv j (terms n (drop a t))) ≡ every (unmarked marks) (fv j (terms (n - 1) (drop (a + 2) t)))
@@ -62,8 +65,8 @@ module _ {t : List ℕ} {a n : ℕ} (w : Walk t a n) (h : 0 < n) (marks : List �
 
   look-abstraction : getD t a 0 ≡ 196608
       → every (unmarked marks) (fv j (terms n (drop a t)))
-        ≡ every (unmarked marks) (fv (j + 1) (front (drop (a + 2) t)))
-          && every (unmarked marks) (fv j (terms (n - 1) (drop (a + 2 + wordCount (front (drop (a + 2) t))) t)))
+      ≡ every (unmarked marks) (fv (j + 1) (front (drop (a + 2) t)))
+      && every (unmarked marks) (fv j (terms (n - 1) (drop (a + 2 + wordCount (front (drop (a + 2) t))) t)))
   look-abstraction v =
       let p = at-abstraction t a n (w .begins) h v in
       rw (p .terms-are, add-one j) (every-append (unmarked marks) (fv (suc j) (front (drop (a + 2) t))) _)
@@ -71,7 +74,7 @@ module _ {t : List ℕ} {a n : ℕ} (w : Walk t a n) (h : 0 < n) (marks : List �
   -- nothing is marked in the body
   pub look-past : getD t a 0 ≡ 196608 → every (unmarked marks) (fv (j + 1) (front (drop (a + 2) t))) ≡ true
       → every (unmarked marks) (fv j (terms n (drop a t)))
-        ≡ every (unmarked marks) (fv j (terms (n - 1) (drop (a + 2 + wordCount (front (drop (a + 2) t))) t)))
+      ≡ every (unmarked marks) (fv j (terms (n - 1) (drop (a + 2 + wordCount (front (drop (a + 2) t))) t)))
   look-past v e = rw e at (look-abstraction v)
 
   pub look-inside : getD t a 0 ≡ 196608 → every (unmarked marks) (fv (j + 1) (front (drop (a + 2) t))) ≡ false → every (unmarked marks) (fv j (terms n (drop a t))) ≡ false
@@ -90,6 +93,7 @@ mark-one marks v y l h = go (eqb v y) refl
     and-false : (q : Bool) → false ≡ q && false
     and-false true = refl
     and-false false = refl
+
     go : (q : Bool) → eqb v y ≡ q → unmarked (set marks v 1) y ≡ unmarked marks y && not q
     go true e =
         let z : min y 64 ≡ v = let q = eqb-true v y e in omega arith in

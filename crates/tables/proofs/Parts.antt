@@ -1,22 +1,22 @@
 -- How the terms of a part come apart: at a node (`opened`), and at a whole term (`passed`). Each walk of a table takes one of these two steps.
 use mathlib.Core.Path.{_≡_, refl, sym, ap, _∙_}
 use Prim.Native.Nat.{ℕ, zero, suc, _+_, _-_, _*_, _/_, _%_, _≤_, _<_}
-use native.Mathlib.Nat.{zero-add, suc-add, add-zero}
+use native.Mathlib.Nat.{zero-add, suc-add}
 use native.Mathlib.Numerals.{add-one, add-two}
 use native.Mathlib.Omega.{arith}
-use mathlib.Core.Bool.{Bool, true, false}
+use mathlib.Core.Bool.{true}
 use mathlib.Core.Option.{Option, none, some}
-use mathlib.Core.List.{List, [], _∷_, _++_}
+use mathlib.Core.List.{List, [], _∷_}
 use lib.Dec.{eqb, leb}
 use lib.ListN.{length, take, drop, getD, length-drop, length-append}
 use lib.Seq.{drop-cons, drop-drop, drop-at, take-all}
 use borrow.Author.Tests.{eqb-true, leb-true}
 use Rattle.documents.specs.Limits.{argumentLimit}
 use Rattle.documents.specs.Lists.{andThen}
-use Rattle.documents.specs.Terms.{Sort, many, Tm, Var, Sym, Meta, Abst, Nil, Cons, Term, Terms, len}
-use Rattle.documents.specs.Tables.{kindOf, node, abstract, grab, termsIn, nodes, tableOf}
-use Rattle.documents.proofs.Lists.{never, needed, andThen-is}
-use Rattle.documents.proofs.Tables.{before, Grabbed, grabbed, AllFit, tablesOf, Holds, termsIn-holds, termsIn-tablesOf, length-tableOf}
+use Rattle.documents.specs.Terms.{many, Var, Sym, Meta, Abst, Nil, Cons, Term, Terms, len}
+use Rattle.documents.specs.Tables.{kindOf, node, abstract, termsIn, nodes, tableOf}
+use Rattle.documents.proofs.Lists.{never, needed}
+use Rattle.documents.proofs.Tables.{before, Grabbed, grabbed, tablesOf, Holds, termsIn-holds, termsIn-tablesOf, length-tableOf}
 use Rattle.tables.specs.Parts.{orEmpty, held, firstTerms, terms, front, Begins, wordCount}
 
 -- ---- A node, and the terms that its words stand before
@@ -149,7 +149,7 @@ held-node w c part e = go (termsIn part) e
 
 pub opened : {n : ℕ} (t : List ℕ) (a : ℕ) → Begins n (drop a t) → 0 < n
     → (termsIn (drop (a + 2) t) ≡ some (held (drop (a + 2) t)))
-      × Opened (getD t a 0 / 65536) (getD t a 0 % 65536) (getD t (a + 1) 0) (held (drop a t)) (held (drop (a + 2) t))
+    × Opened (getD t a 0 / 65536) (getD t a 0 % 65536) (getD t (a + 1) 0) (held (drop a t)) (held (drop (a + 2) t))
 opened t a b h =
     let l = in-table t a b h in
     let e = two t a (omega arith) in
@@ -269,8 +269,8 @@ parted (suc m) n part b =
     let r = parted m n behind (rw e at (p .begins)) in
     let x : terms (suc m) part ≡ Cons (front part) (terms m behind) = rw f at (q .terms-are) in
     let w : drop (wordCount (terms (suc m) part)) part ≡ drop (wordCount (terms m behind)) behind =
-        let k : wordCount (Cons (front part) (terms m behind)) ≡ wordCount (front part) + wordCount (terms m behind) = omega arith in
-        rw (x, drop-drop (wordCount (terms m behind)) (wordCount (front part)) part, k) refl in
+    let k : wordCount (Cons (front part) (terms m behind)) ≡ wordCount (front part) + wordCount (terms m behind) = omega arith in
+    rw (x, drop-drop (wordCount (terms m behind)) (wordCount (front part)) part, k) refl in
     record {
       terms-are = rw e at (p .terms-are) ∙ ap (Cons (front part)) (r .terms-are) ∙ rw (w, x) refl;
       begins = rw w (r .begins);

@@ -1,7 +1,7 @@
 -- The comparison under a renaming, as a walk of two parts sees it. As long as the two agree their nodes stand at the same places, and what is
 -- compared before a node is what is compared behind it; a difference at the node decides.
 use mathlib.Core.Path.{_≡_, refl, sym, ap, ap₂, _∙_}
-use Prim.Native.Nat.{ℕ, zero, suc, _+_, _-_, _*_, _/_, _%_, _≤_, _<_}
+use Prim.Native.Nat.{ℕ, zero, suc, _+_, _-_, _/_, _%_, _≤_, _<_}
 use native.Mathlib.Numerals.{add-one}
 use native.Mathlib.Omega.{arith}
 use mathlib.Core.Bool.{Bool, true, false, _&&_, cond}
@@ -12,14 +12,14 @@ use borrow.Author.Tests.{lt-ltb, le-ltb, ltb-true, ltb-false, eq-eqb, ne-eqb, eq
 use Rattle.documents.specs.Terms.{Sort, Tm, Var, Sym, Meta, Abst, Nil, Cons, Term, Terms, len, rename}
 use Rattle.documents.specs.Tables.{nodes}
 use Rattle.documents.specs.Instructions.{pairsIn}
-use Rattle.documents.specs.Machine.{isVar, isSym, isMeta, isAbst, isNil, isCons, equal, renaming, equalUnder}
-use Rattle.documents.proofs.Lists.{never, on, T-of, of-and, and-assoc, and-true}
+use Rattle.documents.specs.Machine.{isVar, equal, renaming, equalUnder}
+use Rattle.documents.proofs.Lists.{never, on, and-assoc, and-true}
 use Rattle.documents.proofs.Substitution.{rename-ext, rename-id}
 use Rattle.documents.proofs.Paper.{equal-is}
 use Rattle.tables.specs.Parts.{terms, front, Begins, wordCount}
 use Rattle.tables.specs.Compared.{sameVariable}
-use Rattle.tables.proofs.Parts.{join, only, headed, Shape, Step, step, two, front-term}
-use Rattle.tables.proofs.Walks.{AtVariable, at-variable, AtAbstraction, at-abstraction, Walk}
+use Rattle.tables.proofs.Parts.{join, headed, Shape, Step, step, two, front-term}
+use Rattle.tables.proofs.Walks.{at-variable, at-abstraction, Walk}
 
 and-false : (q : Bool) → q && false ≡ false
 and-false true = refl
@@ -120,7 +120,7 @@ module _ (ps : List (ℕ × ℕ)) (D : ℕ) where
     -- a variable, and the word that should be its
     compare-variable : getD t a 0 < 65536 → getD u a 0 < 65536
         → equalUnder ps D j (terms n (drop a t)) (terms n (drop a u))
-          ≡ sameVariable ps D j (getD t a 0) (getD u a 0) && equalUnder ps D j (terms (n - 1) (drop (a + 2) t)) (terms (n - 1) (drop (a + 2) u))
+        ≡ sameVariable ps D j (getD t a 0) (getD u a 0) && equalUnder ps D j (terms (n - 1) (drop (a + 2) t)) (terms (n - 1) (drop (a + 2) u))
     unfolding sameVariable
     compare-variable x y =
         rw (at-variable t a n (w .begins) h x .terms-are, at-variable u a n (v .begins) h y .terms-are, lt-ltb (getD u a 0) 65536 y) refl
@@ -131,8 +131,8 @@ module _ (ps : List (ℕ × ℕ)) (D : ℕ) where
 
     pub same-variable : getD t a 0 < 65536 → sameVariable ps D j (getD t a 0) (getD u a 0) ≡ true
         → (getD u a 0 < 65536)
-          × (equalUnder ps D j (terms n (drop a t)) (terms n (drop a u))
-             ≡ equalUnder ps D j (terms (n - 1) (drop (a + 2) t)) (terms (n - 1) (drop (a + 2) u)))
+        × (equalUnder ps D j (terms n (drop a t)) (terms n (drop a u))
+        ≡ equalUnder ps D j (terms (n - 1) (drop (a + 2) t)) (terms (n - 1) (drop (a + 2) u)))
     same-variable x e = (same-is-variable e, rw e at (compare-variable x (same-is-variable e)))
 
     -- what is no variable is not one renamed
@@ -160,9 +160,12 @@ module _ (ps : List (ℕ × ℕ)) (D : ℕ) where
     other-node x d =
         let p = step t a n (w .begins) h in
         let q = step u a n (v .begins) h in
-        rw (p .node, q .node,
-            unequal-heads j (getD t a 0 / 65536) (getD t a 0 % 65536) (getD u a 0 / 65536) (getD u a 0 % 65536) (p .arguments) (q .arguments) (omega arith) (p .shape) (q .shape)
-            (λ k s l. d (omega arith) (sym (p .count) ∙ l ∙ q .count))) refl
+        rw (
+          p .node,
+          q .node,
+          unequal-heads j (getD t a 0 / 65536) (getD t a 0 % 65536) (getD u a 0 / 65536) (getD u a 0 % 65536) (p .arguments) (q .arguments) (omega arith) (p .shape) (q .shape)
+              (λ k s l. d (omega arith) (sym (p .count) ∙ l ∙ q .count)),
+        ) refl
 
     pub other-word : 65536 ≤ getD t a 0 → ((getD u a 0 ≡ getD t a 0) → ⊥) → equalUnder ps D j (terms n (drop a t)) (terms n (drop a u)) ≡ false
     other-word x d = other-node x (λ e l. d (sym e))
@@ -172,7 +175,7 @@ module _ (ps : List (ℕ × ℕ)) (D : ℕ) where
 
     pub same-applied : 65536 ≤ getD t a 0 → ((getD t a 0 ≡ 196608) → ⊥) → getD u a 0 ≡ getD t a 0 → getD u (a + 1) 0 ≡ getD t (a + 1) 0
         → equalUnder ps D j (terms n (drop a t)) (terms n (drop a u))
-          ≡ equalUnder ps D j (terms (n - 1 + getD t (a + 1) 0) (drop (a + 2) t)) (terms (n - 1 + getD u (a + 1) 0) (drop (a + 2) u))
+        ≡ equalUnder ps D j (terms (n - 1 + getD t (a + 1) 0) (drop (a + 2) t)) (terms (n - 1 + getD u (a + 1) 0) (drop (a + 2) u))
     same-applied x y e f =
         let p = step t a n (w .begins) h in
         equal-applied j p (step u a n (v .begins) h) (omega arith) (omega arith) (sym f) (omega arith) (no-abstraction (getD t a 0) p refl refl y)
@@ -186,15 +189,15 @@ module _ (ps : List (ℕ × ℕ)) (D : ℕ) where
 
     compare-abstraction : getD t a 0 ≡ 196608 → getD u a 0 ≡ 196608
         → equalUnder ps D j (terms n (drop a t)) (terms n (drop a u))
-          ≡ equalUnder ps D (j + 1) (front (drop (a + 2) t)) (front (drop (a + 2) u))
-            && equalUnder ps D j (terms (n - 1) (drop (a + 2 + wordCount (front (drop (a + 2) t))) t)) (terms (n - 1) (drop (a + 2 + wordCount (front (drop (a + 2) u))) u))
+        ≡ equalUnder ps D (j + 1) (front (drop (a + 2) t)) (front (drop (a + 2) u))
+        && equalUnder ps D j (terms (n - 1) (drop (a + 2 + wordCount (front (drop (a + 2) t))) t)) (terms (n - 1) (drop (a + 2 + wordCount (front (drop (a + 2) u))) u))
     compare-abstraction x y = rw (at-abstraction t a n (w .begins) h x .terms-are, at-abstraction u a n (v .begins) h y .terms-are, add-one j) refl
 
     -- the bodies agree, so they are equally long
     pub same-body : getD t a 0 ≡ 196608 → getD u a 0 ≡ 196608 → equalUnder ps D (j + 1) (front (drop (a + 2) t)) (front (drop (a + 2) u)) ≡ true
         → (wordCount (front (drop (a + 2) u)) ≡ wordCount (front (drop (a + 2) t)))
-          × (equalUnder ps D j (terms n (drop a t)) (terms n (drop a u))
-             ≡ equalUnder ps D j (terms (n - 1) (drop (a + 2 + wordCount (front (drop (a + 2) t))) t)) (terms (n - 1) (drop (a + 2 + wordCount (front (drop (a + 2) u))) u)))
+        × (equalUnder ps D j (terms n (drop a t)) (terms n (drop a u))
+        ≡ equalUnder ps D j (terms (n - 1) (drop (a + 2 + wordCount (front (drop (a + 2) t))) t)) (terms (n - 1) (drop (a + 2 + wordCount (front (drop (a + 2) u))) u)))
     same-body x y e = (let k = equal-nodes (j + 1) (front (drop (a + 2) t)) (front (drop (a + 2) u)) e in omega arith, rw e at (compare-abstraction x y))
 
     pub other-body : getD t a 0 ≡ 196608 → getD u a 0 ≡ 196608 → equalUnder ps D (j + 1) (front (drop (a + 2) t)) (front (drop (a + 2) u)) ≡ false

@@ -1,7 +1,7 @@
 -- What is asked of the metavariables of a side, as a walk of its table sees it: for each question, its answer for the terms that begin at a node
 -- and its answer for the terms behind the node's words. Laws are in the code's form: places of a whole table and tests of the first word.
 use mathlib.Core.Path.{_≡_, refl, sym, ap, ap₂, _∙_}
-use Prim.Native.Nat.{ℕ, zero, suc, _+_, _-_, _*_, _/_, _%_, _≤_, _<_}
+use Prim.Native.Nat.{ℕ, zero, suc, _+_, _-_, _/_, _%_, _≤_, _<_}
 use native.Mathlib.Nat.{sub-zero}
 use native.Mathlib.Omega.{arith}
 use mathlib.Core.Bool.{Bool, true, false, not, _&&_}
@@ -13,9 +13,10 @@ use Rattle.documents.specs.Lists.{member, isset}
 use Rattle.documents.specs.Terms.{Var, Sym, Meta, Abst, Nil, Cons, Term, Terms, len}
 use Rattle.documents.specs.Rules.{metas, among, simple, areVars, freevars}
 use Rattle.documents.proofs.Lists.{never, and-assoc, and-true}
+use Rattle.tables.specs.Side.{distinct}
 use Rattle.tables.specs.Parts.{held, firstTerms, terms, front, Begins}
 use Rattle.tables.proofs.Parts.{join, Step, step, front-term}
-use Rattle.tables.proofs.Walks.{at-variable, Walk, walk-from, walk-on, walk-variable, ended}
+use Rattle.tables.proofs.Walks.{at-variable, Walk}
 
 -- ---- The metavariables of terms
 
@@ -82,10 +83,6 @@ areVars-other {k = zero} p e = absurd (omega arith)
 areVars-other {k = suc zero} p e = rw (p .node)
 areVars-other {k = suc (suc zero)} p e = rw (p .node)
 areVars-other {k = suc (suc (suc k))} p e = rw (p .node)
-
--- the terms are variables, and no two of them are the same
-abbrev pub distinct : Terms → Bool
-distinct ts = areVars ts && isset (freevars ts)
 
 freevars-cons : (x : ℕ) (us : Terms) → freevars (Cons (Var x) us) ≡ x ∷ freevars us
 freevars-cons x us = rw (le-ltb x 0 (omega arith), sub-zero x)

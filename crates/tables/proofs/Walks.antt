@@ -5,16 +5,15 @@ use Prim.Native.Nat.{ℕ, zero, suc, _+_, _-_, _*_, _/_, _%_, _≤_, _<_}
 use native.Mathlib.Nat.{zero-add}
 use native.Mathlib.Omega.{arith}
 use mathlib.Core.Bool.{Bool, true, false}
-use mathlib.Core.List.{List, [], _∷_, _++_, append-assoc}
+use mathlib.Core.List.{List, [], _∷_}
 use lib.ListN.{length, drop, getD, length-drop}
 use lib.Seq.{drop-drop}
-use Rattle.documents.specs.Terms.{Sort, many, Tm, Var, Sym, Meta, Abst, Nil, Cons, Term, Terms, len}
-use Rattle.documents.specs.Tables.{nodes, depth}
-use Rattle.documents.specs.Rules.{fv}
+use Rattle.documents.specs.Terms.{Sort, many, Tm, Var, Abst, Nil, Cons, Term, Terms, len}
+use Rattle.documents.specs.Tables.{nodes}
 use Rattle.documents.proofs.Lists.{never}
 use Rattle.tables.specs.declared.walk.Walked.the-variants.{Words, Stopped}
 use Rattle.tables.specs.Parts.{held, firstTerms, terms, front, Begins, wordCount, walked}
-use Rattle.tables.proofs.Parts.{join, only, headed, Shape, Step, StepAt, step, begins-inside, begins-less, Passed, passed, Parted, parted, front-term, words-fit}
+use Rattle.tables.proofs.Parts.{join, only, headed, Shape, Step, step, begins-inside, begins-less, passed, parted, front-term, words-fit}
 
 -- ---- A variable
 
@@ -115,7 +114,7 @@ join-same (Cons t ts) (Cons u us) xs ys l e =
 pub record AtNode (t : List ℕ) (a n : ℕ) : Type 0 where
   pub terms-are : terms n (drop a t)
       ≡ Cons (headed (getD t a 0 / 65536) (getD t a 0 % 65536) (terms (getD t (a + 1) 0) (drop (a + 2) t)))
-        (terms (n - 1) (drop (a + 2 + wordCount (terms (getD t (a + 1) 0) (drop (a + 2) t))) t))
+      (terms (n - 1) (drop (a + 2 + wordCount (terms (getD t (a + 1) 0) (drop (a + 2) t))) t))
   pub shape : Shape (getD t a 0 / 65536) (getD t a 0 % 65536) (terms (getD t (a + 1) 0) (drop (a + 2) t))
   pub arguments : Begins (getD t (a + 1) 0) (drop (a + 2) t)
   pub begins : Begins (n - 1) (drop (a + 2 + wordCount (terms (getD t (a + 1) 0) (drop (a + 2) t))) t)

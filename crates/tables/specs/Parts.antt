@@ -1,7 +1,7 @@
 -- Parts of a table (document 01, 'Terms and node tables'): a subterm is handed on as the part of the table that starts at its node. Such a part
 -- holds whole terms, one after the other, and begins with that subterm.
-use Prim.Native.Nat.{ℕ, zero, suc, _*_, _≤_}
 use mathlib.Core.Path.{_≡_}
+use Prim.Native.Nat.{ℕ, zero, suc, _*_, _≤_}
 use mathlib.Core.Bool.{Bool, true, false}
 use mathlib.Core.Option.{Option, none, some}
 use mathlib.Core.List.{List, [], _∷_}

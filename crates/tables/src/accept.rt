@@ -1,14 +1,16 @@
 // The table check: the first of 2, 1, 3 that is due, and for a subject then 4; or the node count.
-use crate::node::{ABSTRACTION, FIRST_SYMBOL, MOST_ARGUMENTS, MOST_DEPTH, PLAN_NODES};
+use crate::node::ABSTRACTION;
+use crate::node::FIRST_SYMBOL;
+use crate::node::MOST_ARGUMENTS;
+use crate::node::MOST_DEPTH;
+use crate::node::PLAN_NODES;
 use crate::side::plain;
 use crate::walk::Walked;
 use documents::Refusal;
 ghost use mathlib.Core.Path.{_≡_};
-ghost use lib.Dec.{leb};
-ghost use Rattle.documents.specs.Tables.{depth};
 ghost use Rattle.documents.specs.Numbers.{tableIn, subjectIn};
-ghost use Rattle.tables.specs.Parts.{terms, Begins, walked};
-ghost use Rattle.tables.specs.Answers.{sized, isGood, inLayout};
+ghost use Rattle.tables.specs.Parts.{terms, Begins};
+ghost use Rattle.tables.specs.Answers.{sized, isGood, inLayout, within};
 
 pub enum Sized {
     Nodes(usize),
@@ -87,7 +89,7 @@ fn in_layout(word: u32, count: u32) -> bool
 // Passes over so many terms, none of them deeper than the levels, with a call a level: how many words they have.
 fn pass_within(part: &[u32], count: u32, levels: u32) -> Walked
     requires { ⌜ Begins count (now part) ⌝ }
-    ensures { λ r. ⌜ r ≡ walked (leb (depth (terms count (now (part .entry)))) levels) (terms count (now (part .entry))) ⌝ }
+    ensures { λ r. ⌜ r ≡ within levels (terms count (now (part .entry))) ⌝ }
 {
     let mut left = count;
     let mut at: usize = 0;

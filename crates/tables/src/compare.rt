@@ -1,14 +1,14 @@
 // The comparison of two subterms under a renaming: EQI and EQIMM of the machine.
-use crate::node::{ABSTRACTION, FIRST_SYMBOL};
+use crate::node::ABSTRACTION;
+use crate::node::FIRST_SYMBOL;
 use crate::walk::Walked;
 ghost use mathlib.Core.Path.{_≡_};
 ghost use Prim.Native.Nat.{_+_, _<_, _^_};
 ghost use lib.ListN.{length};
-ghost use Rattle.documents.specs.Terms.{rename};
-ghost use Rattle.documents.specs.Machine.{equal, renaming, equalUnder};
+ghost use Rattle.documents.specs.Machine.{equal, renaming};
 ghost use Rattle.documents.specs.Instructions.{pairsIn};
-ghost use Rattle.tables.specs.Parts.{front, Begins, walked};
-ghost use Rattle.tables.specs.Compared.{sameVariable};
+ghost use Rattle.tables.specs.Parts.{front, Begins};
+ghost use Rattle.tables.specs.Compared.{agrees, compared, sameVariable};
 
 // Code words hold d + 64 for d.
 pub const D_SHIFT: usize = 64;
@@ -16,7 +16,7 @@ pub const D_SHIFT: usize = 64;
 // EQI: the old subterm, renamed, is the new one. The pairs are a first index and a second one each; `shift` is d + 64.
 pub fn same(old: &[u32], new: &[u32], shift: u32, pairs: &[u32]) -> bool
     requires { ⌜ Begins 1 (now old) × Begins 1 (now new) ⌝ }
-    ensures { λ r. ⌜ r ≡ equal (rename (renaming (pairsIn (now (pairs .entry))) shift) (front (now (old .entry)))) (front (now (new .entry))) ⌝ }
+    ensures { λ r. ⌜ r ≡ agrees (now (pairs .entry)) shift (front (now (old .entry))) (front (now (new .entry))) ⌝ }
 {
     let Walked::Words(_) = compare_under(old, new, shift, pairs, 0) else {
         return false;
@@ -36,7 +36,7 @@ pub fn identical(old: &[u32], new: &[u32]) -> bool
 // Nodes are passed by a running count of the terms still owed; only an abstraction takes a call.
 fn compare_under(old: &[u32], new: &[u32], shift: u32, pairs: &[u32], under: usize) -> Walked
     requires { ⌜ Begins 1 (now old) × Begins 1 (now new) × (under + length (now old) < 2 ^ 64) ⌝ }
-    ensures { λ r. ⌜ r ≡ walked (equalUnder (pairsIn (now (pairs .entry))) shift under (front (now (old .entry))) (front (now (new .entry)))) (front (now (old .entry))) ⌝ }
+    ensures { λ r. ⌜ r ≡ compared (now (pairs .entry)) shift under (front (now (old .entry))) (front (now (new .entry))) ⌝ }
 {
     let mut owed: usize = 1;
     let mut at: usize = 0;
@@ -55,7 +55,13 @@ fn compare_under(old: &[u32], new: &[u32], shift: u32, pairs: &[u32], under: usi
             return Walked::Stopped;
         }
         if word == ABSTRACTION {
-            let Walked::Words(words) = compare_under(&old[at + 2..], &new[at + 2..], shift, pairs, under + 1) else {
+            let Walked::Words(words) = compare_under(
+                &old[at + 2..],
+                &new[at + 2..],
+                shift,
+                pairs,
+                under + 1,
+            ) else {
                 return Walked::Stopped;
             };
             owed -= 1;

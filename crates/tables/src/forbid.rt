@@ -1,13 +1,13 @@
 // Free variables that are forbidden: CHECK of the machine, and the sides of a rule, which have none at all.
-use crate::node::{ABSTRACTION, FIRST_SYMBOL};
+use crate::node::ABSTRACTION;
+use crate::node::FIRST_SYMBOL;
 use crate::walk::Walked;
 ghost use mathlib.Core.Path.{_≡_};
 ghost use Prim.Native.Nat.{_+_, _<_, _^_};
 ghost use lib.ListN.{length};
-ghost use Rattle.documents.specs.Lists.{every};
-ghost use Rattle.documents.specs.Rules.{fv, closed};
-ghost use Rattle.tables.specs.Parts.{front, Begins, walked};
-ghost use Rattle.tables.specs.Forbidden.{clear, Small, unmarked, marked, markedWith};
+ghost use Rattle.documents.specs.Rules.{closed};
+ghost use Rattle.tables.specs.Parts.{front, Begins};
+ghost use Rattle.tables.specs.Forbidden.{clear, Small, marked, looked, markedWith};
 
 // Indices that a CHECK can list: its current term has at most 63 abstractions above it.
 pub const LISTED: usize = 64;
@@ -61,7 +61,7 @@ fn marks_of(indices: &[u32]) -> [u8; 65]
 // Nodes are passed by a running count of the terms still owed; only an abstraction takes a call.
 fn look(part: &[u32], marks: &[u8; 65], under: usize) -> Walked
     requires { ⌜ Begins 1 (now part) × (under + length (now part) < 2 ^ 64) ⌝ }
-    ensures { λ r. ⌜ r ≡ walked (every (unmarked (now (marks .entry))) (fv under (front (now (part .entry))))) (front (now (part .entry))) ⌝ }
+    ensures { λ r. ⌜ r ≡ looked (now (marks .entry)) under (front (now (part .entry))) ⌝ }
 {
     let mut owed: usize = 1;
     let mut at: usize = 0;

@@ -1,11 +1,14 @@
 // What the compiler asks of the metavariables of a side.
-use crate::node::{ABSTRACTION, FIRST_METAVARIABLE, FIRST_SYMBOL};
+use crate::node::ABSTRACTION;
+use crate::node::FIRST_METAVARIABLE;
+use crate::node::FIRST_SYMBOL;
 ghost use mathlib.Core.Path.{_≡_};
-ghost use mathlib.Core.Bool.{true, _&&_};
-ghost use Prim.Native.Nat.{_+_, _≤_};
-ghost use Rattle.documents.specs.Lists.{isEmpty, isset, member};
+ghost use mathlib.Core.Bool.{true};
+ghost use Prim.Native.Nat.{_≤_};
+ghost use Rattle.documents.specs.Lists.{isEmpty, member};
 ghost use Rattle.documents.specs.Rules.{metas, among, simple, areVars, freevars};
 ghost use Rattle.tables.specs.Parts.{front, terms, Begins};
+ghost use Rattle.tables.specs.Side.{distinct};
 
 // The subterm has no metavariable.
 pub fn plain(part: &[u32]) -> bool
@@ -75,7 +78,7 @@ pub fn is_simple(part: &[u32]) -> bool
 // The first terms of a part, so many, are variables, and no two of them are the same.
 fn distinct_variables(part: &[u32], count: u32) -> bool
     requires { ⌜ Begins count (now part) ⌝ }
-    ensures { λ r. ⌜ r ≡ areVars (terms count (now (part .entry))) && isset (freevars (terms count (now (part .entry)))) ⌝ }
+    ensures { λ r. ⌜ r ≡ distinct (terms count (now (part .entry))) ⌝ }
 {
     if !variables(part, count) {
         return false;

@@ -6,10 +6,11 @@ use mathlib.Core.Bool.{true}
 use lib.ListN.{drop}
 use borrow.Author.Tests.{not-true, not-false}
 use Rattle.documents.specs.Rules.{areVars}
+use Rattle.tables.specs.Side.{distinct}
 use Rattle.tables.specs.Parts.{terms}
 use Rattle.tables.proofs.Parts.{from-drop}
 use Rattle.tables.proofs.Walks.{Walk, walk-from, walk-variable, ended}
-use Rattle.tables.proofs.Sides.{distinct, is-variable, variables-behind, distinct-here}
+use Rattle.tables.proofs.Sides.{is-variable, variables-behind, distinct-here}
 use borrow.Author.Needs.{needs}
 use Rattle.tables.proofs.side.distinct_variables.Statement.{statement}
 use Rattle.tables.proofs.side.distinct_variables.Tie as tie
