@@ -1,0 +1,86 @@
+/*
+ * Reedbiscuit: wake-plan rules, in calls that are proved.
+ *
+ * Every call takes every input there can be: any bytes, any words, tables of any length. It needs no start, keeps nothing between calls,
+ * takes no memory but its stack and calls nobody; threads may call at the same time on memory of their own.
+ */
+#ifndef REEDBISCUIT_H
+#define REEDBISCUIT_H
+
+#include <stddef.h>
+#include <stdint.h>
+
+#ifdef __cplusplus
+extern "C" {
+#endif
+
+/*
+ * Numbers given back.
+ *
+ * Where it is not REED_DONE, all else that the call gives is 0, and the tables that it was lent to write words to are as they were.
+ */
+enum reed_number {
+    REED_DONE = 0,                              /* done */
+    REED_TABLE_NOT_GOOD = 1,                    /* table not good */
+    REED_TOO_MANY_WORDS = 2,                    /* more words than its node limit allows */
+    REED_TOO_DEEP = 3,                          /* depth over 64 */
+    REED_METAVARIABLE_IN_SUBJECT = 4,           /* metavariable in subject */
+    REED_LEFT_ROOT_NO_SYMBOL = 5,               /* left root no symbol */
+    REED_FREE_VARIABLE = 6,                     /* free variable in a side */
+    REED_ARGUMENTS_NOT_DISTINCT_VARIABLES = 7,  /* left metavariable's arguments not distinct variables */
+    REED_ABSENT_ON_LEFT = 8,                    /* right metavariable absent on left */
+    REED_TOO_MANY_METAVARIABLES = 9,            /* over 16 left metavariables */
+    REED_CODE_TABLE_SHORT = 10,                 /* code longer than the lent code table */
+    REED_CODE_DOES_NOT_PASS = 11,               /* code does not pass */
+    REED_MATCH_FAILS = 12,                      /* a match instruction fails */
+    REED_RESULT_TOO_LARGE = 13,                 /* result has more nodes than 4,096 or half the result table's words, rounded down */
+    REED_RESULT_TOO_DEEP = 14,                  /* result depth over 64 */
+    REED_RESULT_INDEX_TOO_HIGH = 15,            /* result index over 65,535 */
+    REED_WORKING_TABLE_SHORT = 16,              /* working table short */
+    REED_BAD_FILE = 17                          /* bad file */
+};
+
+/*
+ * Lent memory.
+ *
+ * What a call is lent is a pointer and, right after it, how many bytes or words stand there (words, not bytes, for a uint32_t pointer).
+ * As for a Rust slice: the pointer is aligned for its type and not NULL; all of the memory can be read, and written where the pointer is
+ * not const; memory that can be written overlaps nothing else that the call is lent; no part is longer than PTRDIFF_MAX bytes. Where the
+ * length is 0, nothing is read or written through the pointer, which then need not point to memory at all.
+ */
+
+/*
+ * Bytes.
+ *
+ * A file is one version byte, then left side, right side and subject, each a four-byte count of words and these words, all big-endian,
+ * and nothing after.
+ */
+enum {
+    REED_FILE_VERSION = 1,
+    REED_FILE_SIDE_WORDS = 1024,    /* the most words of a side in a file */
+    REED_FILE_SUBJECT_WORDS = 8192, /* the most words of a subject in a file */
+    REED_FILE_BYTES = 40973         /* the length of the longest file */
+};
+
+/* REED_DONE and how many words were written to each table, or REED_BAD_FILE and three times 0. */
+struct reed_read_answer {
+    uint32_t number;
+    uint32_t left;
+    uint32_t right;
+    uint32_t subject;
+};
+
+/*
+ * Reads a file: puts the words of its tables at the front of the three lent ones and leaves the rest of each as it was.
+ *
+ * REED_BAD_FILE if the bytes are no such file, or a count is over its limit above or over the length of the table lent for it; then no
+ * word of any table is changed. Whether the words make sense is not asked here: a table that is read need not be good.
+ */
+struct reed_read_answer reed_read(const uint8_t *file, size_t file_length, uint32_t *left, size_t left_length, uint32_t *right,
+                                  size_t right_length, uint32_t *subject, size_t subject_length);
+
+#ifdef __cplusplus
+}
+#endif
+
+#endif

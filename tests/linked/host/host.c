@@ -1,0 +1,101 @@
+/*
+ * The host: makes the library's calls for a test that cannot link it, since the library is x86-64 code and the test may not be.
+ *
+ * It reads a batch from standard input (how many words follow, then one frame after another), makes each frame's call in the frame's own
+ * memory, and writes the frames back as they are then; and so on until the input ends. src/engine/frame.rs has the other side. Words are in
+ * the order of x86-64's bytes.
+ */
+#include "reedbiscuit.h"
+
+/* The C library without its headers; ssize_t is long on x86-64 Linux. */
+extern long read(int descriptor, void *to, size_t bytes);
+extern long write(int descriptor, const void *from, size_t bytes);
+
+enum { STANDARD_INPUT, STANDARD_OUTPUT };
+enum { ALL_MADE, CUT_SHORT, TOO_LONG, NO_SUCH_CALL };
+enum { ANSWER_WORDS = 5, AREAS = 4, BATCH_WORDS = 1 << 22 };
+
+enum call { CALL_READ = 1 };
+
+/* Memory that a call is lent, with guards around it. */
+struct area {
+    uint32_t words;  /* that it takes in the frame, guards included */
+    uint32_t before; /* units of guard before what is lent */
+    uint32_t length; /* units that are lent */
+};
+
+/* What is known of a call; after it stands the memory of its areas. */
+struct frame {
+    uint32_t call;
+    uint32_t argument;
+    uint32_t answer[ANSWER_WORDS];
+    struct area areas[AREAS];
+};
+
+static uint32_t batch[BATCH_WORDS];
+
+static void make_read(struct frame *frame, uint32_t *memory[AREAS])
+{
+    const struct area *file = &frame->areas[0], *left = &frame->areas[1], *right = &frame->areas[2], *subject = &frame->areas[3];
+    struct reed_read_answer answer =
+        reed_read((const uint8_t *)memory[0] + file->before, file->length, memory[1] + left->before, left->length,
+                  memory[2] + right->before, right->length, memory[3] + subject->before, subject->length);
+    frame->answer[0] = answer.number;
+    frame->answer[1] = answer.left;
+    frame->answer[2] = answer.right;
+    frame->answer[3] = answer.subject;
+}
+
+/* Makes a frame's call; gives where the next frame begins, or nothing if there is no such call. */
+static uint32_t *make(struct frame *frame)
+{
+    uint32_t *memory[AREAS], *next = (uint32_t *)(frame + 1);
+    for (int area = 0; area < AREAS; area++) {
+        memory[area] = next;
+        next += frame->areas[area].words;
+    }
+    switch (frame->call) {
+    case CALL_READ:
+        make_read(frame, memory);
+        return next;
+    default:
+        return 0;
+    }
+}
+
+/* Whether so many bytes were there. */
+static int take(void *to, size_t bytes)
+{
+    for (size_t taken = 0; taken < bytes;) {
+        long more = read(STANDARD_INPUT, (char *)to + taken, bytes - taken);
+        if (more <= 0) return 0;
+        taken += (size_t)more;
+    }
+    return 1;
+}
+
+/* Whether so many bytes were taken. */
+static int give(const void *from, size_t bytes)
+{
+    for (size_t given = 0; given < bytes;) {
+        long more = write(STANDARD_OUTPUT, (const char *)from + given, bytes - given);
+        if (more <= 0) return 0;
+        given += (size_t)more;
+    }
+    return 1;
+}
+
+int main(void)
+{
+    uint32_t words;
+    while (take(&words, sizeof words)) {
+        if (words > BATCH_WORDS) return TOO_LONG;
+        if (!take(batch, words * sizeof *batch)) return CUT_SHORT;
+        for (uint32_t *next = batch; next < batch + words;) {
+            next = make((struct frame *)next);
+            if (!next) return NO_SUCH_CALL;
+        }
+        if (!give(batch, words * sizeof *batch)) return CUT_SHORT;
+    }
+    return ALL_MADE;
+}

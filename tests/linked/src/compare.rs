@@ -1,0 +1,118 @@
+//! Seeded calls, made by the library and by the second implementation, and compared.
+
+use std::collections::BTreeMap;
+use std::fmt;
+use std::ops::Range;
+
+use second::seed::Rng;
+
+use crate::call::Call;
+use crate::engine::Engine;
+
+/// One way to make calls.
+pub struct Kind<C> {
+    pub name: &'static str,
+    /// The numbers that the documents give to such calls: each must come, and no other.
+    pub numbers: &'static [u32],
+    /// How many seeds.
+    pub seeds: u64,
+    /// The calls of a seed.
+    pub calls: fn(&mut Rng) -> Vec<C>,
+}
+
+/// How often each number came.
+type Numbers = BTreeMap<u32, usize>;
+
+/// What came of all calls, kind by kind.
+pub struct Tally {
+    engine: &'static str,
+    kinds: Vec<(&'static str, Numbers)>,
+}
+
+/// One of a seed's calls, counted from 0.
+struct Case<C> {
+    seed: u64,
+    place: usize,
+    call: C,
+}
+
+/// Once there are so many cases, they are made.
+const TOGETHER: usize = 256;
+
+/// Makes every call on both sides; panics where they differ, or a kind is not what it says.
+pub fn compare<C: Call>(kinds: &[Kind<C>]) -> Tally {
+    let mut engine = Engine::start().expect("the library can be reached");
+    let mut tally = Tally { engine: engine.name(), kinds: Vec::new() };
+    for kind in kinds {
+        let numbers = compare_kind(&mut engine, kind);
+        let came: Vec<u32> = numbers.keys().copied().collect();
+        assert_eq!(came, kind.numbers, "'{}': numbers that came and should come", kind.name);
+        tally.kinds.push((kind.name, numbers));
+    }
+    tally
+}
+
+fn compare_kind<C: Call>(engine: &mut Engine, kind: &Kind<C>) -> Numbers {
+    let mut numbers = Numbers::new();
+    let mut cases = Vec::new();
+    let seeds = seeds(kind.seeds);
+    for seed in seeds.clone() {
+        let calls = (kind.calls)(&mut Rng::new(seed)).into_iter().enumerate();
+        cases.extend(calls.map(|(place, call)| Case { seed, place, call }));
+        if cases.len() >= TOGETHER || seed + 1 == seeds.end {
+            compare_cases(engine, kind.name, &mut cases, &mut numbers);
+        }
+    }
+    numbers
+}
+
+/// Makes the cases on both sides, compares and counts them; none is left.
+fn compare_cases<C: Call>(
+    engine: &mut Engine,
+    kind: &str,
+    cases: &mut Vec<Case<C>>,
+    numbers: &mut Numbers,
+) {
+    let mut calls: Vec<C> = cases.iter().map(|case| case.call.clone()).collect();
+    if let Err(why) = engine.make(&mut calls) {
+        let (first, last) = (cases[0].seed, cases[cases.len() - 1].seed);
+        panic!("'{kind}', one of the seeds {first} to {last}: {why}");
+    }
+    for (call, mut case) in calls.iter().zip(cases.drain(..)) {
+        case.call.make_second();
+        if *call != case.call {
+            let Case { seed, place, call: expected } = case;
+            let what = call.difference(&expected).unwrap_or_default();
+            panic!("'{kind}', seed {seed}, call {place}: {what}\n(SEED_FROM={seed} repeats it)");
+        }
+        *numbers.entry(call.answer()[0]).or_default() += 1;
+    }
+}
+
+/// The seeds of a kind: so many from 0 on. As in second's tests, SEED_FROM gives the first one and
+/// SEED_TIMES how many times as many.
+fn seeds(count: u64) -> Range<u64> {
+    let number = |name, otherwise| {
+        std::env::var(name).ok().and_then(|text| text.parse().ok()).unwrap_or(otherwise)
+    };
+    let from = number("SEED_FROM", 0);
+    from..from + count * number("SEED_TIMES", 1)
+}
+
+impl Tally {
+    pub fn calls(&self) -> usize {
+        self.kinds.iter().flat_map(|(_, numbers)| numbers.values()).sum()
+    }
+}
+
+impl fmt::Display for Tally {
+    fn fmt(&self, text: &mut fmt::Formatter) -> fmt::Result {
+        writeln!(text, "{} calls agree ({}); by kind, NUMBER: TIMES", self.calls(), self.engine)?;
+        for (kind, numbers) in &self.kinds {
+            let times: Vec<String> =
+                numbers.iter().map(|(n, times)| format!("{n}: {times}")).collect();
+            writeln!(text, "  {kind:<40} {}", times.join(", "))?;
+        }
+        Ok(())
+    }
+}

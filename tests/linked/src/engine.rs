@@ -1,0 +1,50 @@
+//! The library under test: linked into this process, or in a host program beside it.
+
+mod frame;
+mod host;
+#[cfg(target_arch = "x86_64")]
+pub mod linked;
+
+use std::io;
+
+use crate::call::Call;
+use host::Host;
+
+pub enum Engine {
+    #[cfg(target_arch = "x86_64")]
+    Linked,
+    Host(Host),
+}
+
+impl Engine {
+    /// The engine that build.rs has chosen.
+    pub fn start() -> io::Result<Engine> {
+        match option_env!("REED_HOST") {
+            Some(program) => Ok(Engine::Host(Host::start(program)?)),
+            #[cfg(target_arch = "x86_64")]
+            None => Ok(Engine::Linked),
+            #[cfg(not(target_arch = "x86_64"))]
+            None => Err(io::Error::other("build.rs made no host program")),
+        }
+    }
+
+    pub fn name(&self) -> &'static str {
+        match self {
+            #[cfg(target_arch = "x86_64")]
+            Engine::Linked => "linked",
+            Engine::Host(_) => "host",
+        }
+    }
+
+    /// Makes these calls; an error if the host does not come back from one.
+    pub fn make<C: Call>(&mut self, calls: &mut [C]) -> io::Result<()> {
+        match self {
+            #[cfg(target_arch = "x86_64")]
+            Engine::Linked => {
+                calls.iter_mut().for_each(C::make_linked);
+                Ok(())
+            }
+            Engine::Host(host) => host.make(calls),
+        }
+    }
+}

@@ -1,0 +1,52 @@
+//! A call as bytes, for host.c, which has the other side of this layout: the call's number and
+//! argument, its answer, three words for each of four areas, and the areas' memory, each from a
+//! whole word on. Words have their low byte first.
+
+use crate::call::{Answer, Call};
+use crate::guarded::{Area, Unit};
+
+const WORD: usize = <u32 as Unit>::BYTES;
+const AREAS: usize = 4;
+const ANSWER_WORDS: usize = std::mem::size_of::<Answer>() / WORD;
+const ANSWER_FROM: usize = 2 * WORD;
+const MEMORY_FROM: usize = (2 + ANSWER_WORDS + 3 * AREAS) * WORD;
+
+/// Appends a call's frame.
+pub fn put<C: Call>(call: &mut C, bytes: &mut Vec<u8>) {
+    let head = [C::NUMBER, call.argument()].into_iter().chain(call.answer());
+    head.for_each(|word| word.put(bytes));
+    let areas = call.areas();
+    assert!(areas.len() <= AREAS);
+    let mut shapes = [[0; 3]; AREAS];
+    for (shape, area) in shapes.iter_mut().zip(&areas) {
+        let [before, length] = area.shape();
+        *shape = [words(&**area) as u32, before as u32, length as u32];
+    }
+    shapes.into_iter().flatten().for_each(|word| word.put(bytes));
+    for area in areas {
+        let end = bytes.len() + words(area) * WORD;
+        area.put(bytes);
+        bytes.resize(end, 0);
+    }
+}
+
+/// Takes a call's answer and its memory from its frame; gives the bytes after that.
+pub fn take<'a>(call: &mut impl Call, bytes: &'a [u8]) -> &'a [u8] {
+    let mut answer = Answer::default();
+    for (word, bytes) in answer.iter_mut().zip(bytes[ANSWER_FROM..].chunks_exact(WORD)) {
+        *word = u32::of_bytes(bytes);
+    }
+    call.set_answer(answer);
+    let mut rest = &bytes[MEMORY_FROM..];
+    for area in call.areas() {
+        let (memory, after) = rest.split_at(words(area) * WORD);
+        area.set(memory);
+        rest = after;
+    }
+    rest
+}
+
+/// Words that an area's memory takes in a frame.
+fn words(area: &dyn Area) -> usize {
+    area.bytes().div_ceil(WORD)
+}

@@ -1,0 +1,44 @@
+//! The library linked into this process: include/reedbiscuit.h, call by call, over slices.
+#![allow(unsafe_code)]
+
+use second::ReadAnswer;
+
+#[repr(C)]
+struct ReedReadAnswer {
+    number: u32,
+    left: u32,
+    right: u32,
+    subject: u32,
+}
+
+extern "C" {
+    fn reed_read(
+        file: *const u8,
+        file_length: usize,
+        left: *mut u32,
+        left_length: usize,
+        right: *mut u32,
+        right_length: usize,
+        subject: *mut u32,
+        subject_length: usize,
+    ) -> ReedReadAnswer;
+}
+
+#[inline]
+pub fn read(file: &[u8], left: &mut [u32], right: &mut [u32], subject: &mut [u32]) -> ReadAnswer {
+    // Sound: each pointer comes with its slice's length, and no slice overlaps another.
+    let answer = unsafe {
+        reed_read(
+            file.as_ptr(),
+            file.len(),
+            left.as_mut_ptr(),
+            left.len(),
+            right.as_mut_ptr(),
+            right.len(),
+            subject.as_mut_ptr(),
+            subject.len(),
+        )
+    };
+    let ReedReadAnswer { number, left, right, subject } = answer;
+    ReadAnswer { number, left, right, subject }
+}

@@ -1,0 +1,13 @@
+//! The proved library, called as C calls it, beside the second implementation.
+//!
+//! `guarded` is the memory that a call is lent, `call` what every call has in common, and `engine`
+//! reaches the library; `compare` makes seeded calls on both sides. Each call of the library has a
+//! module of its own.
+
+#![deny(unsafe_code)]
+
+pub mod call;
+pub mod compare;
+pub mod engine;
+pub mod guarded;
+pub mod read;

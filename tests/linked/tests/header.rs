@@ -1,0 +1,34 @@
+//! include/reedbiscuit.h says document 01's numbers.
+
+use second::limits::{FILE_BYTES, FILE_SIDE_WORDS, FILE_SUBJECT_WORDS, FILE_VERSION};
+
+const HEADER: &str = include_str!("../../../include/reedbiscuit.h");
+
+/// The constants of the header, in its order.
+fn constants() -> Vec<(&'static str, usize)> {
+    let constant = |line: &'static str| {
+        let (name, rest) = line.trim().split_once(" = ")?;
+        let digits = rest.split(|c: char| !c.is_ascii_digit()).next()?;
+        Some((name, digits.parse().ok()?))
+    };
+    HEADER.lines().filter_map(constant).collect()
+}
+
+#[test]
+fn the_numbers_given_back_are_0_to_17_in_order() {
+    let constants = constants();
+    let numbers: Vec<usize> = constants.iter().take(18).map(|(_, number)| *number).collect();
+    assert_eq!(numbers, Vec::from_iter(0..=17));
+    assert_eq!((constants[0].0, constants[17].0), ("REED_DONE", "REED_BAD_FILE"));
+}
+
+#[test]
+fn the_limits_are_those_of_the_second_implementation() {
+    let limits = [
+        ("REED_FILE_VERSION", FILE_VERSION as usize),
+        ("REED_FILE_SIDE_WORDS", FILE_SIDE_WORDS),
+        ("REED_FILE_SUBJECT_WORDS", FILE_SUBJECT_WORDS),
+        ("REED_FILE_BYTES", FILE_BYTES),
+    ];
+    assert_eq!(constants()[18..], limits);
+}
