@@ -1,117 +1,156 @@
--- A file's sections: what a count that was found says of the bytes, at a place and in the code's arithmetic.
+-- A file's sections, by their counts: at a place and in the code's arithmetic, with `size` for the bytes of a count and its words.
 use mathlib.Core.Path.{_≡_, refl, sym, ap, _∙_}
 use mathlib.Core.List.{List, [], _∷_}
 use mathlib.Core.Option.{Option, none, some}
-use mathlib.Core.Bool.{Bool, true, false}
-use Prim.Native.Nat.{ℕ, zero, suc, _+_, _*_, _-_, _/_, _≤_, _<_, min}
+use mathlib.Core.Bool.{Bool, true, false, cond}
+use Prim.Native.Nat.{ℕ, _+_, _*_, _≤_, _<_}
 use native.Mathlib.Omega.{arith}
 use lib.Dec.{leb, eqb}
-use lib.ListN.{length, getD, take, drop, length-drop, length-take}
-use lib.Seq.{take-all, drop-drop}
-use borrow.Author.Tests.{leb-true, eqb-true}
-use Rattle.documents.specs.Lists.{need}
+use lib.ListN.{length, getD, take, drop, length-drop}
+use lib.Seq.{drop-drop}
+use borrow.Author.Tests.{leb-true, eqb-true, le-leb, eq-eqb, ne-eqb}
 use Rattle.documents.specs.declared.Refusal.the-variants.{BadFile}
+use Rattle.documents.specs.Lists.{need}
 use Rattle.documents.specs.Numbers.{orRefuse}
-use Rattle.documents.specs.Calls.{wordsOf, Section, section, counted, sectionIn, sectionsIn, withSection, File, file, fileIn, readAnswer, readCall, atFront}
+use Rattle.documents.specs.Calls.{wordsOf, Section, section, sectionIn, sectionsIn, withSection, File, file, fileIn, readAnswer, readCall, atFront}
 use Rattle.documents.proofs.Lists.{never, needed}
-use Rattle.reader.specs.Reader.{wordAt, countOf, countsOf, given}
+use Rattle.reader.specs.Reader.{wordAt, wordsFrom, countIn, countsOf, given}
+use Rattle.reader.specs.declared.Count.{Count}
 use Rattle.reader.specs.declared.Count.the-variants as count
 use Rattle.reader.specs.declared.Counts.the-variants as counts
 use Rattle.reader.specs.declared.Answer.the-variants as answer
-use Rattle.reader.proofs.Words.{length-wordsOf}
-
--- the bytes of `&bs[a..e]`
-abbrev pub part : ℕ → ℕ → List ℕ → List ℕ
-part a e bs = take (e - a) (drop a bs)
-
-pub part-all : (a : ℕ) (bs : List ℕ) → part a (length bs) bs ≡ drop a bs
-part-all a bs = take-all (length bs - a) (drop a bs) (simp length-drop (omega arith))
-
-pub length-part : (a e : ℕ) (bs : List ℕ) → length (part a e bs) ≤ e - a
-length-part a e bs = rw (length-take) (omega arith)
+use Rattle.reader.proofs.Words.{length-wordsFrom}
 
 -- ---- A section
 
-pub sectionIn-counted : (limit room : ℕ) (bs : List ℕ) (n : ℕ) → n ≡ wordAt bs 0 → sectionIn limit room bs ≡ need (leb 4 (length bs)) (counted n limit room (drop 4 bs))
+-- the section that bytes begin with, by its count
+abbrev sectionOf : List ℕ → Count → Option Section
+sectionOf bs count.Missing = none
+sectionOf bs (count.Words n) =
+    need (leb (4 * n) (length (drop 4 bs))) (some (section (wordsFrom bs 4 n) (drop (4 * n) (drop 4 bs))))
+
+sectionIn-count : (limit room : ℕ) (bs : List ℕ) → sectionIn limit room bs ≡ sectionOf bs (countIn limit room bs)
 unfolding wordAt
-sectionIn-counted limit room bs n e = rw e
+sectionIn-count limit room bs = go (leb 4 (length bs)) (leb (wordAt bs 0) limit) (leb (wordAt bs 0) room)
+  where
+    go : (a b c : Bool)
+        → need a (need b (need c (sectionOf bs (count.Words (wordAt bs 0))))) ≡ sectionOf bs (cond a (cond b (cond c (count.Words (wordAt bs 0)) count.Missing) count.Missing) count.Missing)
+    go true true true = refl
+    go true true false = refl
+    go true false c = refl
+    go false b c = refl
 
-pub length-words : (n : ℕ) (bs : List ℕ) → 4 * n ≤ length bs → length (wordsOf (take (4 * n) bs)) ≡ n
-length-words n bs h = rw (length-wordsOf, length-take) (omega arith)
+countIn-fits : (limit room : ℕ) (bs : List ℕ) (n : ℕ) → countIn limit room bs ≡ count.Words n → (4 ≤ length bs) × (n ≤ room)
+countIn-fits limit room bs n e = go (leb 4 (length bs)) (leb (wordAt bs 0) limit) (leb (wordAt bs 0) room) refl refl e
+  where
+    go : (a b c : Bool) → leb 4 (length bs) ≡ a → leb (wordAt bs 0) room ≡ c
+        → cond a (cond b (cond c (count.Words (wordAt bs 0)) count.Missing) count.Missing) count.Missing ≡ count.Words n → (4 ≤ length bs) × (n ≤ room)
+    go true true true p q e =
+        let w : wordAt bs 0 ≡ n = cc in
+        (leb-true 4 (length bs) p, rw w at (leb-true (wordAt bs 0) room q))
+    go true true false p q e = never (cc)
+    go true false c p q e = never (cc)
+    go false b c p q e = never (cc)
 
--- what there is, where there is a section
-record Found (room : ℕ) (bs ws rest : List ℕ) (n : ℕ) : Type 0 where
-  pub words : ws ≡ wordsOf (take (4 * n) bs)
-  pub after : rest ≡ drop (4 * n) bs
-  pub fits : n ≤ room
-  pub whole : 4 * n ≤ length bs
+pub sectionIn-none : (limit room : ℕ) (bs : List ℕ) → countIn limit room bs ≡ count.Missing → sectionIn limit room bs ≡ none
+sectionIn-none limit room bs e = sectionIn-count limit room bs ∙ ap (sectionOf bs) e
 
-counted-found : (n limit room : ℕ) (bs ws rest : List ℕ) → counted n limit room bs ≡ some (section ws rest) → Found room bs ws rest n
-counted-found n limit room bs ws rest e =
-    let last = some (section (wordsOf (take (4 * n) bs)) (drop (4 * n) bs)) in
-    let a = needed (leb n limit) (need (leb n room) (need (leb (4 * n) (length bs)) last)) (section ws rest) e in
-    let b = needed (leb n room) (need (leb (4 * n) (length bs)) last) (section ws rest) (a .1) in
-    let d = needed (leb (4 * n) (length bs)) last (section ws rest) (b .1) in
-    record { words = cc (d .1); after = cc (d .1); fits = leb-true n room (b .0); whole = leb-true (4 * n) (length bs) (d .0) }
-
-section-found : (limit room : ℕ) (bs ws rest : List ℕ) (n : ℕ) → sectionIn limit room bs ≡ some (section ws rest) → length ws ≡ n → (4 ≤ length bs) × Found room (drop 4 bs) ws rest n
-section-found limit room bs ws rest n e h =
-    let w = wordAt bs 0 in
-    let a = needed (leb 4 (length bs)) (counted w limit room (drop 4 bs)) (section ws rest) (sym (sectionIn-counted limit room bs w refl) ∙ e) in
-    let f = counted-found w limit room (drop 4 bs) ws rest (a .1) in
-    let g : w ≡ n = sym (length-words w (drop 4 bs) (f .whole)) ∙ sym (ap length (f .words)) ∙ h in
-    (leb-true 4 (length bs) (a .0), rw g at f)
-
--- that the section at a place has n words, and `size` bytes with its count
+-- that the section at a place is there, and has n words
 pub record Holds (limit room at : ℕ) (bs : List ℕ) (n size : ℕ) : Type 0 where
-  pub is : sectionIn limit room (drop at bs) ≡ some (section (wordsOf (part (at + 4) (at + size) bs)) (drop (at + size) bs))
-  pub words : length (wordsOf (part (at + 4) (at + size) bs)) ≡ n
+  pub is : sectionIn limit room (drop at bs) ≡ some (section (wordsFrom bs (at + 4) n) (drop (at + size) bs))
   pub fits : n ≤ room
-  pub whole : at + size ≤ length bs
+  pub whole : at + 4 + 4 * n ≤ length bs
 
-section-holds-at : (limit room at : ℕ) (bs ws rest : List ℕ) (n size : ℕ) → size ≡ 4 + 4 * n → sectionIn limit room (drop at bs) ≡ some (section ws rest) → length ws ≡ n → Holds limit room at bs n size
-section-holds-at limit room at bs ws rest n size z e h =
-    let found = section-found limit room (drop at bs) ws rest n e h in
-    let f = found .1 in
-    let k : at + size - (at + 4) ≡ 4 * n = omega arith in
-    let a : at + 4 + 4 * n ≡ at + size = omega arith in
-    let w : wordsOf (part (at + 4) (at + size) bs) ≡ ws = rw (f .words, drop-drop 4 at bs, k) in
-    record {
-      is = e ∙ rw (w, f .after, drop-drop 4 at bs, drop-drop (4 * n) (at + 4) bs, a);
-      words = rw w h;
-      fits = f .fits;
-      whole = omega (arith, found .0, simp length-drop at (f .whole), length-drop at bs)
-    }
+module _ (limit room at : ℕ) (bs : List ℕ) (n size : ℕ) (z : size ≡ 4 + 4 * n) where
+  -- the section at a place, with its places in the whole file
+  section-at : countIn limit room (drop at bs) ≡ count.Words n
+      → sectionIn limit room (drop at bs) ≡ need (leb (4 * n) (length (drop (at + 4) bs))) (some (section (wordsFrom bs (at + 4) n) (drop (at + size) bs)))
+  section-at c =
+      let e : at + 4 + 4 * n ≡ at + size = omega arith in
+      sectionIn-count limit room (drop at bs) ∙ rw (c, drop-drop 4 at bs, drop-drop (4 * n) (at + 4) bs, e)
 
-holds-is : {limit room at n size : ℕ} {bs ws rest : List ℕ} → sectionIn limit room (drop at bs) ≡ some (section ws rest) → Holds limit room at bs n size → (ws ≡ wordsOf (part (at + 4) (at + size) bs)) × (rest ≡ drop (at + size) bs)
-holds-is e h = (cc (h .is), cc (h .is))
+  pub section-holds : countIn limit room (drop at bs) ≡ count.Words n → at + size ≤ length bs → Holds limit room at bs n size
+  section-holds c h =
+      record {
+        is = section-at c ∙ rw (le-leb (4 * n) (length (drop (at + 4) bs)) (simp length-drop (omega arith)));
+        fits = countIn-fits limit room (drop at bs) n c .1;
+        whole = omega arith
+      }
 
--- a count that was found, of the part of a file from a place on
-pub section-holds : (limit room at : ℕ) (bs : List ℕ) (n size : ℕ) → size ≡ 4 + 4 * n → countOf (sectionIn limit room (part at (length bs) bs)) ≡ count.Words n → Holds limit room at bs n size
-section-holds limit room at bs n size z h = go (sectionIn limit room (drop at bs)) refl (rw (part-all at bs) at h)
-  where
-    go : (o : Option Section) → sectionIn limit room (drop at bs) ≡ o → countOf o ≡ count.Words n → Holds limit room at bs n size
-    go none e h = never (cc)
-    go (some (section ws rest)) e h = section-holds-at limit room at bs ws rest n size z e (cc)
+  -- where something is missing behind the section, its own words may be
+  pub section-then-none : {A : Type 0} (f : List ℕ → List ℕ → Option A) → countIn limit room (drop at bs) ≡ count.Words n
+      → (at + size ≤ length bs → f (wordsFrom bs (at + 4) n) (drop (at + size) bs) ≡ none) → withSection (sectionIn limit room (drop at bs)) f ≡ none
+  section-then-none f c e = rw (section-at c) (go (leb (4 * n) (length (drop (at + 4) bs))) refl)
+    where
+      go : (q : Bool) → leb (4 * n) (length (drop (at + 4) bs)) ≡ q → withSection (need q (some (section (wordsFrom bs (at + 4) n) (drop (at + size) bs)))) f ≡ none
+      go true h =
+          let count-there = countIn-fits limit room (drop at bs) n c .0 in
+          e (omega (arith, simp length-drop at (leb-true (4 * n) (length (drop (at + 4) bs)) h), simp length-drop at count-there))
+      go false h = refl
 
-pub section-missing : (limit room at : ℕ) (bs : List ℕ) → countOf (sectionIn limit room (part at (length bs) bs)) ≡ count.Missing → sectionIn limit room (drop at bs) ≡ none
-section-missing limit room at bs h = go (sectionIn limit room (drop at bs)) refl (rw (part-all at bs) at h)
-  where
-    go : (o : Option Section) → sectionIn limit room (drop at bs) ≡ o → countOf o ≡ count.Missing → sectionIn limit room (drop at bs) ≡ none
-    go none e h = e
-    go (some (section ws rest)) e h = never (cc)
+  -- the other way round: of a section that is there
+  section-is : (ws rest : List ℕ) → sectionIn limit room (drop at bs) ≡ some (section ws rest) → length ws ≡ n
+      → Holds limit room at bs n size × ((ws ≡ wordsFrom bs (at + 4) n) × (rest ≡ drop (at + size) bs))
+  section-is ws rest e h = go (countIn limit room (drop at bs)) refl (sym (sectionIn-count limit room (drop at bs)) ∙ e)
+    where
+      go : (k : Count) → countIn limit room (drop at bs) ≡ k → sectionOf (drop at bs) k ≡ some (section ws rest) → Holds limit room at bs n size × ((ws ≡ wordsFrom bs (at + 4) n) × (rest ≡ drop (at + size) bs))
+      go count.Missing c d = never (cc)
+      go (count.Words m) c d =
+          let a = needed (leb (4 * m) (length (drop 4 (drop at bs)))) (some (section (wordsFrom (drop at bs) 4 m) (drop (4 * m) (drop 4 (drop at bs))))) (section ws rest) d in
+          let long = leb-true (4 * m) (length (drop 4 (drop at bs))) (a .0) in
+          let w : ws ≡ wordsFrom (drop at bs) 4 m = cc (a .1) in
+          let whole : 4 + 4 * m ≤ length (drop at bs) = omega (arith, countIn-fits limit room (drop at bs) m c .0, simp length-drop at long, length-drop at bs) in
+          let q : m ≡ n = sym (length-wordsFrom (drop at bs) 4 m whole) ∙ sym (ap length w) ∙ h in
+          let hs = section-holds (c ∙ ap count.Words q) (omega (arith, simp length-drop at whole)) in
+          (hs, (cc (hs .is), cc (hs .is)))
 
 -- ---- A file
 
-pub fileIn-sections : (left right subject : ℕ) (bs : List ℕ) → 1 ≤ length bs → fileIn left right subject bs ≡ need (eqb (getD bs 0 0) 1) (sectionsIn left right subject (drop 1 bs))
+pub fileIn-short : (left right subject : ℕ) (bs : List ℕ) → length bs < 1 → fileIn left right subject bs ≡ none
 unfolding fileIn
-fileIn-sections left right subject [] h = absurd (omega arith)
-fileIn-sections left right subject (v ∷ bs) h = refl
+fileIn-short left right subject [] h = refl
+fileIn-short left right subject (v ∷ bs) h = absurd (omega arith)
 
-pub fileIn-none : (left right subject : ℕ) (bs : List ℕ) → length bs < 1 → fileIn left right subject bs ≡ none
+fileIn-long : (left right subject : ℕ) (bs : List ℕ) → 1 ≤ length bs → fileIn left right subject bs ≡ need (eqb (getD bs 0 0) 1) (sectionsIn left right subject (drop 1 bs))
 unfolding fileIn
-fileIn-none left right subject [] h = refl
-fileIn-none left right subject (v ∷ bs) h = absurd (omega arith)
+fileIn-long left right subject [] h = absurd (omega arith)
+fileIn-long left right subject (v ∷ bs) h = refl
+
+-- the refusals in their order, each with what was found before it; x, y and z are the bytes of the three sections
+module _ (left right subject : ℕ) (bs : List ℕ) (long : 1 ≤ length bs) where
+  pub no-version : (getD bs 0 0 ≡ 1 → ⊥) → fileIn left right subject bs ≡ none
+  no-version h = fileIn-long left right subject bs long ∙ rw (ne-eqb (getD bs 0 0) 1 h)
+
+  module _ (version : getD bs 0 0 ≡ 1) where
+    versioned : fileIn left right subject bs ≡ sectionsIn left right subject (drop 1 bs)
+    versioned = fileIn-long left right subject bs long ∙ rw (eq-eqb (getD bs 0 0) 1 version)
+
+    pub no-left : countIn 1024 left (drop 1 bs) ≡ count.Missing → fileIn left right subject bs ≡ none
+    no-left h = versioned ∙ rw (sectionIn-none 1024 left (drop 1 bs) h)
+
+    module _ (l x : ℕ) (xs : x ≡ 4 + 4 * l) (lc : countIn 1024 left (drop 1 bs) ≡ count.Words l) where
+      pub no-right : countIn 1024 right (drop (1 + x) bs) ≡ count.Missing → fileIn left right subject bs ≡ none
+      no-right h = versioned ∙ section-then-none 1024 left 1 bs l x xs _ lc (λ w. rw (sectionIn-none 1024 right (drop (1 + x) bs) h))
+
+      module _ (r y : ℕ) (ys : y ≡ 4 + 4 * r) (rc : countIn 1024 right (drop (1 + x) bs) ≡ count.Words r) where
+        pub no-subject : countIn 8192 subject (drop (1 + x + y) bs) ≡ count.Missing → fileIn left right subject bs ≡ none
+        no-subject h =
+            versioned ∙ section-then-none 1024 left 1 bs l x xs _ lc (λ w. section-then-none 1024 right (1 + x) bs r y ys _ rc
+            (λ w. rw (sectionIn-none 8192 subject (drop (1 + x + y) bs) h)))
+
+        module _ (s z : ℕ) (zs : z ≡ 4 + 4 * s) (sc : countIn 8192 subject (drop (1 + x + y) bs) ≡ count.Words s) where
+          pub no-end : (length bs ≡ 1 + x + y + z → ⊥) → fileIn left right subject bs ≡ none
+          no-end h =
+              versioned ∙ section-then-none 1024 left 1 bs l x xs _ lc (λ w. section-then-none 1024 right (1 + x) bs r y ys _ rc (λ w. section-then-none 8192 subject (1 + x + y) bs s z zs _ sc
+              (λ w. rw (ne-eqb (length (drop (1 + x + y + z) bs)) 0 (λ e. h (omega (arith, simp length-drop at e)))))))
+
+          pub at-end : length bs ≡ 1 + x + y + z → countsOf (fileIn left right subject bs) ≡ counts.Words l r s
+          at-end h =
+              let hl = section-holds 1024 left 1 bs l x xs lc (omega arith) in
+              let hr = section-holds 1024 right (1 + x) bs r y ys rc (omega arith) in
+              let hs = section-holds 8192 subject (1 + x + y) bs s z zs sc (omega arith) in
+              rw (versioned, hl .is, hr .is, hs .is, eq-eqb (length (drop (1 + x + y + z) bs)) 0 (simp length-drop (omega arith)),
+                length-wordsFrom bs 5 l (hl .whole), length-wordsFrom bs (1 + x + 4) r (hr .whole), length-wordsFrom bs (1 + x + y + 4) s (hs .whole))
 
 sections-is : (left right subject : ℕ) (bs : List ℕ) (f : File) → fileIn left right subject bs ≡ some f → sectionsIn left right subject (drop 1 bs) ≡ some f
 unfolding fileIn
@@ -123,13 +162,12 @@ withSection-is : {A P : Type 0} (o : Option Section) (f : List ℕ → List ℕ 
 withSection-is none f a e k = never (cc)
 withSection-is (some (section ws rest)) f a e k = k ws rest refl e
 
--- that a file's tables have l, r and s words; x and y are the bytes of the first two sections
+-- that a whole file is there, and its tables have l, r and s words; x and y are the bytes of the first two sections
 pub record Tables (left right subject : ℕ) (bs : List ℕ) (l r s x y : ℕ) : Type 0 where
-  pub is : fileIn left right subject bs ≡ some (file (wordsOf (part 5 (1 + x) bs)) (wordsOf (part (1 + x + 4) (1 + x + y) bs)) (wordsOf (part (1 + x + y + 4) (length bs) bs)))
+  pub is : fileIn left right subject bs ≡ some (file (wordsFrom bs 5 l) (wordsFrom bs (1 + x + 4) r) (wordsFrom bs (1 + x + y + 4) s))
   pub left-holds : Holds 1024 left 1 bs l x
   pub right-holds : Holds 1024 right (1 + x) bs r y
   pub subject-holds : Holds 8192 subject (1 + x + y) bs s (4 + 4 * s)
-  pub whole : 1 + x + y + (4 + 4 * s) ≡ length bs
 
 module _ (left right subject : ℕ) (bs : List ℕ) (l r s x y : ℕ) (xs : x ≡ 4 + 4 * l) (ys : y ≡ 4 + 4 * r) where
   tables-of : (L R S : List ℕ) → fileIn left right subject bs ≡ some (file L R S) → length L ≡ l → length R ≡ r → length S ≡ s → Tables left right subject bs l r s x y
@@ -138,23 +176,17 @@ module _ (left right subject : ℕ) (bs : List ℕ) (l r s x y : ℕ) (xs : x �
       withSection-is (sectionIn 1024 right rest₁) _ (file L R S) f₁ λ R₁ rest₂ e₂ f₂.
       withSection-is (sectionIn 8192 subject rest₂) _ (file L R S) f₂ λ S₁ rest₃ e₃ f₃.
       let z = needed (eqb (length rest₃) 0) (some (file L₁ R₁ S₁)) (file L R S) f₃ in
-      let hl = section-holds-at 1024 left 1 bs L₁ rest₁ l x xs e₁ (cc (z .1)) in
-      let (wl, d₁) = holds-is e₁ hl in
-      let e₂ = rw d₁ at e₂ in
-      let hr = section-holds-at 1024 right (1 + x) bs R₁ rest₂ r y ys e₂ (cc (z .1)) in
-      let (wr, d₂) = holds-is e₂ hr in
-      let e₃ = rw d₂ at e₃ in
-      let hs = section-holds-at 8192 subject (1 + x + y) bs S₁ rest₃ s (4 + 4 * s) refl e₃ (cc (z .1)) in
-      let (ws, d₃) = holds-is e₃ hs in
-      let whole : 1 + x + y + (4 + 4 * s) ≡ length bs = omega (arith, eqb-true (length rest₃) 0 (z .0), ap length d₃, length-drop (1 + x + y + (4 + 4 * s)) bs, hs .whole) in
+      let (hl, (wl, d₁)) = section-is 1024 left 1 bs l x xs L₁ rest₁ e₁ (cc (z .1)) in
+      let (hr, (wr, d₂)) = section-is 1024 right (1 + x) bs r y ys R₁ rest₂ (rw d₁ at e₂) (cc (z .1)) in
+      let (hs, (ws, d₃)) = section-is 8192 subject (1 + x + y) bs s (4 + 4 * s) refl S₁ rest₃ (rw d₂ at e₃) (cc (z .1)) in
       record {
-        is = e ∙ sym (z .1) ∙ rw (wl, wr, ws, whole);
+        is = e ∙ sym (z .1) ∙ rw (wl, wr, ws);
         left-holds = hl;
         right-holds = hr;
-        subject-holds = hs;
-        whole = whole
+        subject-holds = hs
       }
 
+  -- a whole file, by its counts
   pub tables : countsOf (fileIn left right subject bs) ≡ counts.Words l r s → Tables left right subject bs l r s x y
   tables h = go (fileIn left right subject bs) refl h
     where
@@ -162,17 +194,18 @@ module _ (left right subject : ℕ) (bs : List ℕ) (l r s x y : ℕ) (xs : x �
       go none e h = never (cc)
       go (some (file L R S)) e h = tables-of L R S e (cc) (cc) (cc)
 
--- the counts of a file that was found, and its words at the front of the lent tables
+-- ---- The call
+
 pub readCall-done : (bs left right subject : List ℕ) (l r s x y : ℕ) → Tables (length left) (length right) (length subject) bs l r s x y
-    → given (answer.Words l r s) (atFront left (wordsOf (part 5 (1 + x) bs))) (atFront right (wordsOf (part (1 + x + 4) (1 + x + y) bs))) (atFront subject (wordsOf (part (1 + x + y + 4) (length bs) bs)))
+    → given (answer.Words l r s) (atFront left (wordsFrom bs 5 l)) (atFront right (wordsFrom bs (1 + x + 4) r)) (atFront subject (wordsFrom bs (1 + x + y + 4) s))
       ≡ readCall bs left right subject
 unfolding readCall
 readCall-done bs left right subject l r s x y t =
-    rw (t .is, t .left-holds .words, t .right-holds .words, rw (t .whole) at (t .subject-holds .words))
+    rw (t .is, length-wordsFrom bs 5 l (t .left-holds .whole), length-wordsFrom bs (1 + x + 4) r (t .right-holds .whole), length-wordsFrom bs (1 + x + y + 4) s (t .subject-holds .whole))
 
-pub readCall-none : (bs left right subject : List ℕ) → countsOf (fileIn (length left) (length right) (length subject) bs) ≡ counts.Missing → given (answer.Refused BadFile) left right subject ≡ readCall bs left right subject
+pub readCall-refused : (bs left right subject : List ℕ) → countsOf (fileIn (length left) (length right) (length subject) bs) ≡ counts.Missing → given (answer.Refused BadFile) left right subject ≡ readCall bs left right subject
 unfolding readCall
-readCall-none bs left right subject h = go (fileIn (length left) (length right) (length subject) bs) h
+readCall-refused bs left right subject h = go (fileIn (length left) (length right) (length subject) bs) h
   where
     go : (o : Option File) → countsOf o ≡ counts.Missing → given (answer.Refused BadFile) left right subject ≡ readAnswer left right subject (orRefuse o BadFile)
     go none h = refl

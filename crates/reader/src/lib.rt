@@ -1,13 +1,14 @@
 // The byte reader (document 01, 'Bytes and the program'). A file is looked at to its end before the first word is written.
 use documents::Refusal;
 ghost use mathlib.Core.Path.{_≡_};
-ghost use Prim.Native.Nat.{_+_, _*_, _≤_, _<_};
-ghost use lib.ListN.{length, getD};
-ghost use Rattle.documents.specs.Calls.{bigEndian, wordsOf, atFront, sectionIn, fileIn, readCall};
-ghost use Rattle.reader.specs.Reader.{countOf, countsOf, given, wordAt, turnedWord};
+ghost use Prim.Native.Nat.{_+_, _*_, _^_, _≤_, _<_};
+ghost use lib.ListN.{length, drop};
+ghost use Rattle.documents.specs.Calls.{bigEndian, atFront, fileIn, readCall};
+ghost use Rattle.reader.specs.Reader.{given, countsOf, countIn, wordsFrom, wordAt, turnedWord};
 
 const VERSION: u8 = 1;
-const VERSION_BYTES: usize = 1;
+// Where the first section begins.
+const LEFT_AT: usize = 1;
 const BYTE: u32 = 256;
 const WORD_BYTES: usize = 4;
 const SIDE_WORDS: usize = 1024;
@@ -27,11 +28,11 @@ pub fn read(file: &[u8], left: &mut [u32], right: &mut [u32], subject: &mut [u32
     let Counts::Words(l, r, s) = found else {
         return Answer::Refused(Refusal::BadFile);
     };
-    let right_at = VERSION_BYTES + section_bytes(l);
+    let right_at = LEFT_AT + section_bytes(l);
     let subject_at = right_at + section_bytes(r);
-    put_words(&file[VERSION_BYTES + WORD_BYTES..right_at], left);
-    put_words(&file[right_at + WORD_BYTES..subject_at], right);
-    put_words(&file[subject_at + WORD_BYTES..], subject);
+    put_words(file, LEFT_AT + WORD_BYTES, l, left);
+    put_words(file, right_at + WORD_BYTES, r, right);
+    put_words(file, subject_at + WORD_BYTES, s, subject);
     Answer::Words(l, r, s)
 }
 
@@ -41,24 +42,25 @@ enum Counts {
     Missing,
 }
 
+// A table's words are there where the next count is, or the end of the file.
 fn file_in(left: usize, right: usize, subject: usize, file: &[u8]) -> Counts
     ensures { λ r. ⌜ r ≡ countsOf (fileIn left right subject (now (file .entry))) ⌝ }
 {
-    if file.len() < VERSION_BYTES {
+    if file.len() < LEFT_AT {
         return Counts::Missing;
     }
     if file[0] != VERSION {
         return Counts::Missing;
     }
-    let Count::Words(l) = section_in(SIDE_WORDS, left, &file[VERSION_BYTES..]) else {
+    let Count::Words(l) = count_in(SIDE_WORDS, left, file, LEFT_AT) else {
         return Counts::Missing;
     };
-    let right_at = VERSION_BYTES + section_bytes(l);
-    let Count::Words(r) = section_in(SIDE_WORDS, right, &file[right_at..]) else {
+    let right_at = LEFT_AT + section_bytes(l);
+    let Count::Words(r) = count_in(SIDE_WORDS, right, file, right_at) else {
         return Counts::Missing;
     };
     let subject_at = right_at + section_bytes(r);
-    let Count::Words(s) = section_in(SUBJECT_WORDS, subject, &file[subject_at..]) else {
+    let Count::Words(s) = count_in(SUBJECT_WORDS, subject, file, subject_at) else {
         return Counts::Missing;
     };
     if file.len() != subject_at + section_bytes(s) {
@@ -67,27 +69,25 @@ fn file_in(left: usize, right: usize, subject: usize, file: &[u8]) -> Counts
     Counts::Words(l, r, s)
 }
 
-// The count of the table that bytes begin with.
+// The count that stands at a place.
 enum Count {
     Words(u32),
     Missing,
 }
 
-fn section_in(limit: usize, room: usize, bytes: &[u8]) -> Count
-    ensures { λ r. ⌜ r ≡ countOf (sectionIn limit room (now (bytes .entry))) ⌝ }
+fn count_in(limit: usize, room: usize, file: &[u8], at: usize) -> Count
+    requires { ⌜ at + 4 < 2 ^ 64 ⌝ }
+    ensures { λ r. ⌜ r ≡ countIn limit room (drop at (now (file .entry))) ⌝ }
 {
-    if bytes.len() < WORD_BYTES {
+    if file.len() < at + WORD_BYTES {
         return Count::Missing;
     }
-    let count = word_at(bytes, 0);
+    let count = word_at(file, at);
     let words = count as usize;
     if limit < words {
         return Count::Missing;
     }
     if room < words {
-        return Count::Missing;
-    }
-    if bytes.len() - WORD_BYTES < WORD_BYTES * words {
         return Count::Missing;
     }
     Count::Words(count)
@@ -100,25 +100,25 @@ fn section_bytes(count: u32) -> usize
     WORD_BYTES + WORD_BYTES * (count as usize)
 }
 
-// The words that bytes hold, at the front of a table.
-fn put_words(bytes: &[u8], table: &mut [u32])
-    requires { ⌜ length (now bytes) ≤ 4 * length (now table) ⌝ }
-    ensures { λ _. ⌜ now (table .exit) ≡ atFront (now (table .entry)) (wordsOf (now (bytes .entry))) ⌝ }
+// Words that stand at a place, to the front of a table.
+fn put_words(file: &[u8], at: usize, count: u32, table: &mut [u32])
+    requires { ⌜ (count ≤ length (now table)) × (at + 4 * count ≤ length (now file)) ⌝ }
+    ensures { λ _. ⌜ now (table .exit) ≡ atFront (now (table .entry)) (wordsFrom (now (file .entry)) at count) ⌝ }
 {
-    let count = bytes.len() / WORD_BYTES;
+    let words = count as usize;
     let mut i: usize = 0;
-    while i < count {
-        table[i] = word_at(bytes, WORD_BYTES * i);
+    while i < words {
+        table[i] = word_at(file, at + WORD_BYTES * i);
         i += 1;
     }
 }
 
 // The word at a place. Taken together in the machine's order and turned, so that it compiles to one load and one swap, and the loop above to vectors.
-fn word_at(bytes: &[u8], at: usize) -> u32
-    requires { ⌜ at + 4 ≤ length (now bytes) ⌝ }
-    ensures { λ r. ⌜ r ≡ wordAt (now (bytes .entry)) at ⌝ }
+fn word_at(file: &[u8], at: usize) -> u32
+    requires { ⌜ at + 4 ≤ length (now file) ⌝ }
+    ensures { λ r. ⌜ r ≡ wordAt (now (file .entry)) at ⌝ }
 {
-    turned(together(bytes[at], bytes[at + 1], bytes[at + 2], bytes[at + 3]))
+    turned(together(file[at], file[at + 1], file[at + 2], file[at + 3]))
 }
 
 // Four bytes, the lowest first.

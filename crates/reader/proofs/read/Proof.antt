@@ -1,8 +1,6 @@
-use mathlib.Core.Path.{_≡_, sym, _∙_}
-use Prim.Native.Nat.{_+_}
-use native.Mathlib.Omega.{arith}
+use mathlib.Core.Path.{sym, _∙_}
 use lib.ListN.{length}
-use Rattle.reader.proofs.Sections.{Tables, tables, length-part, readCall-done, readCall-none}
+use Rattle.reader.proofs.Sections.{Tables, tables, readCall-done, readCall-refused}
 use borrow.Author.Needs.{needs}
 use Rattle.reader.proofs.read.Statement.{statement}
 use Rattle.reader.proofs.read.Tie as tie
@@ -12,123 +10,87 @@ use Rattle.reader.proofs.file_in.Reads as file-in-reads
 use Rattle.reader.proofs.put_words.Reads as put-words-reads
 use Rattle.reader.proofs.section_bytes.Reads as section-bytes-reads
 
--- where the whole file was found good
-abbrev PastFile : Type 0
-PastFile = lts.After-section-bytes2 (file-in-reads.Asked, file-in-reads.Learnt, section-bytes-reads.Asked, section-bytes-reads.Learnt, put-words-reads.Asked, put-words-reads.Learnt) reads.Pre reads.Post
+-- where the whole file is there, and nothing written
+abbrev Found : Type 0
+Found = lts.After-section-bytes2 (file-in-reads.Asked, file-in-reads.Learnt, section-bytes-reads.Asked, section-bytes-reads.Learnt, put-words-reads.Asked, put-words-reads.Learnt) reads.Pre reads.Post
 
-holds : (c : PastFile) → let s = c .before .before .before .before .before .before .before .before .before .before .args in let n = c .before .before .before .found .given .0 in Tables (length (s .left .now)) (length (s .right .now)) (length (s .subject .now)) (s .file .now) (n .0) (n .1 .0) (n .1 .1 .0) (c .before .section-bytes .result) (c .section-bytes2 .result)
-holds c =
+found : (c : Found) → let s = c .before .before .before .before .before .before .before .before .before .before .args in let n = c .before .before .before .found .given .0 in Tables (length (s .left .now)) (length (s .right .now)) (length (s .subject .now)) (s .file .now) (n .0) (n .1 .0) (n .1 .1 .0) (c .before .section-bytes .result) (c .section-bytes2 .result)
+found c =
     let s = c .before .before .before .before .before .before .before .before .before .before .args in
     let n = c .before .before .before .found .given .0 in
     tables (length (s .left .now)) (length (s .right .now)) (length (s .subject .now)) (s .file .now) (n .0) (n .1 .0) (n .1 .1 .0) (c .before .section-bytes .result) (c .section-bytes2 .result) (c .before .section-bytes .ensures) (c .section-bytes2 .ensures) (sym (c .before .before .before .before .before .file-in .ensures) ∙ c .before .before .before .found .given .1)
 
--- src/lib.rt:26:9
+-- src/lib.rt:27:9
 file-in-requires : tie.Need-file-in-requires
 file-in-requires c κs = search needs
 
--- src/lib.rt:27:23
+-- src/lib.rt:28:23
 enum-known-found : tie.Need-enum-known-found
 enum-known-found c = search needs
 
--- src/lib.rt:28:32
+-- src/lib.rt:29:32
 enum-told : tie.Need-enum-told
 enum-told c = search needs
 
--- src/lib.rt:28:9
+-- src/lib.rt:29:9
 returns : tie.Need-returns
-returns c = let s = c .before .before .before .before .before .before .before .args in readCall-none (s .file .now) (s .left .now) (s .right .now) (s .subject .now) (sym (c .before .before .file-in .ensures) ∙ c .enum-told .given .1)
+returns c = let s = c .before .before .before .before .before .before .before .args in readCall-refused (s .file .now) (s .left .now) (s .right .now) (s .subject .now) (sym (c .before .before .file-in .ensures) ∙ c .enum-told .given .1)
 
--- src/lib.rt:30:36
+-- src/lib.rt:31:30
 section-bytes-requires : tie.Need-section-bytes-requires
 section-bytes-requires c κs = search needs
 
--- src/lib.rt:30:20
+-- src/lib.rt:31:20
 add-right-at : tie.Need-add-right-at
 add-right-at c = search needs
 
--- src/lib.rt:31:33
+-- src/lib.rt:32:33
 section-bytes-requires-2 : tie.Need-section-bytes-requires-2
 section-bytes-requires-2 c κs = search needs
 
--- src/lib.rt:31:22
+-- src/lib.rt:32:22
 add-subject-at : tie.Need-add-subject-at
 add-subject-at c = search needs
 
--- src/lib.rt:32:21
+-- src/lib.rt:33:21
 add-put-words : tie.Need-add-put-words
 add-put-words c = search needs
 
--- src/lib.rt:32:15
-sub-put-words : tie.Need-sub-put-words
-sub-put-words c = search needs
-
--- src/lib.rt:32:15
-part-put-words-start : tie.Need-part-put-words-start
-part-put-words-start c = search needs
-
--- src/lib.rt:32:15
-part-put-words-end : tie.Need-part-put-words-end
-part-put-words-end c = omega (arith, holds c .left-holds .whole)
-
--- src/lib.rt:32:5
+-- src/lib.rt:33:5
 put-words-requires : tie.Need-put-words-requires
-put-words-requires c κs = let t = holds (c .before .before) in let f = c .before .before .before .before .before .before .before .before .before .before .before .before .args .file .now in omega (arith, length-part 5 (1 + c .before .before .before .section-bytes .result) f, t .left-holds .fits, c .before .before .before .section-bytes .ensures)
+put-words-requires c κs = let t = found (c .before) .left-holds in (t .fits, t .whole)
 
--- src/lib.rt:33:21
+-- src/lib.rt:34:21
 add-put-words-2 : tie.Need-add-put-words-2
 add-put-words-2 c = search needs
 
--- src/lib.rt:33:15
-sub-put-words-2 : tie.Need-sub-put-words-2
-sub-put-words-2 c = search needs
-
--- src/lib.rt:33:15
-part-put-words-start-2 : tie.Need-part-put-words-start-2
-part-put-words-start-2 c = search needs
-
--- src/lib.rt:33:15
-part-put-words-end-2 : tie.Need-part-put-words-end-2
-part-put-words-end-2 c = omega (arith, holds (c .before .before .before .before .before) .right-holds .whole)
-
--- src/lib.rt:33:5
+-- src/lib.rt:34:5
 put-words-requires-2 : tie.Need-put-words-requires-2
-put-words-requires-2 c κs = let t = holds (c .before .before .before .before .before .before .before) in let f = c .before .before .before .before .before .before .before .before .before .before .before .before .before .before .before .before .before .args .file .now in let x = c .before .before .before .before .before .before .before .before .section-bytes .result in let y = c .before .before .before .before .before .before .before .section-bytes2 .result in omega (arith, length-part (1 + x + 4) (1 + x + y) f, t .right-holds .fits, c .before .before .before .before .before .before .before .section-bytes2 .ensures)
+put-words-requires-2 c κs = let t = found (c .before .before .before .before .before) .right-holds in (t .fits, t .whole)
 
--- src/lib.rt:34:21
+-- src/lib.rt:35:21
 add-put-words-3 : tie.Need-add-put-words-3
 add-put-words-3 c = search needs
 
--- src/lib.rt:34:15
-sub-put-words-3 : tie.Need-sub-put-words-3
-sub-put-words-3 c = omega (arith, holds (c .before .before .before .before .before .before .before .before .before .before) .whole)
-
--- src/lib.rt:34:15
-part-put-words-start-3 : tie.Need-part-put-words-start-3
-part-put-words-start-3 c = omega (arith, holds (c .before .before .before .before .before .before .before .before .before .before) .whole)
-
--- src/lib.rt:34:15
-part-put-words-end-3 : tie.Need-part-put-words-end-3
-part-put-words-end-3 c = search needs
-
--- src/lib.rt:34:5
+-- src/lib.rt:35:5
 put-words-requires-3 : tie.Need-put-words-requires-3
-put-words-requires-3 c κs = let t = holds (c .before .before .before .before .before .before .before .before .before .before .before .before) in let f = c .before .before .before .before .before .before .before .before .before .before .before .before .before .before .before .before .before .before .before .before .before .before .args .file .now in let x = c .before .before .before .before .before .before .before .before .before .before .before .before .before .section-bytes .result in let y = c .before .before .before .before .before .before .before .before .before .before .before .before .section-bytes2 .result in omega (arith, length-part (1 + x + y + 4) (length f) f, t .subject-holds .fits, t .whole)
+put-words-requires-3 c κs = let t = found (c .before .before .before .before .before .before .before .before .before) .subject-holds in (t .fits, t .whole)
 
--- src/lib.rt:23:1
+-- src/lib.rt:24:1
 same-length : tie.Need-same-length
 same-length c = search needs
 
--- src/lib.rt:23:1
+-- src/lib.rt:24:1
 same-length-2 : tie.Need-same-length-2
 same-length-2 c = search needs
 
--- src/lib.rt:23:1
+-- src/lib.rt:24:1
 same-length-3 : tie.Need-same-length-3
 same-length-3 c = search needs
 
--- src/lib.rt:23:1
+-- src/lib.rt:24:1
 returns-2 : tie.Need-returns-2
-returns-2 c = let s = c .before .before .before .before .before .before .before .before .before .before .before .before .before .before .before .before .before .before .before .before .before .before .before .before .before .args in let n = c .before .before .before .before .before .before .before .before .before .before .before .before .before .before .before .before .before .before .found .given .0 in rw (c .before .before .before .before .before .before .before .before .before .before .before .before .put-words .ensures, c .before .before .before .before .before .before .before .put-words2 .ensures, c .before .before .put-words3 .ensures) (readCall-done (s .file .now) (s .left .now) (s .right .now) (s .subject .now) (n .0) (n .1 .0) (n .1 .1 .0) (c .before .before .before .before .before .before .before .before .before .before .before .before .before .before .before .before .section-bytes .result) (c .before .before .before .before .before .before .before .before .before .before .before .before .before .before .before .section-bytes2 .result) (holds (c .before .before .before .before .before .before .before .before .before .before .before .before .before .before .before)))
+returns-2 c = let s = c .before .before .before .before .before .before .before .before .before .before .before .before .before .before .before .before .before .before .before .before .before .before .args in let n = c .before .before .before .before .before .before .before .before .before .before .before .before .before .before .before .found .given .0 in rw (c .before .before .before .before .before .before .before .before .before .before .put-words .ensures, c .before .before .before .before .before .before .put-words2 .ensures, c .before .before .put-words3 .ensures) (readCall-done (s .file .now) (s .left .now) (s .right .now) (s .subject .now) (n .0) (n .1 .0) (n .1 .1 .0) (c .before .before .before .before .before .before .before .before .before .before .before .before .before .section-bytes .result) (c .before .before .before .before .before .before .before .before .before .before .before .before .section-bytes2 .result) (found (c .before .before .before .before .before .before .before .before .before .before .before .before)))
 
 pub read-spec : {M : Type 1} → statement M
 read-spec =
@@ -143,19 +105,10 @@ read-spec =
     section-bytes-requires-2
     add-subject-at
     add-put-words
-    sub-put-words
-    part-put-words-start
-    part-put-words-end
     put-words-requires
     add-put-words-2
-    sub-put-words-2
-    part-put-words-start-2
-    part-put-words-end-2
     put-words-requires-2
     add-put-words-3
-    sub-put-words-3
-    part-put-words-start-3
-    part-put-words-end-3
     put-words-requires-3
     same-length
     same-length-2

@@ -51,7 +51,7 @@ turned-requires c κs = search needs
 -- src/lib.rt:117:1
 returns : tie.Need-returns
 unfolding wordAt
-returns c = let bs = c .before .before .before .before .before .before .before .args .bytes .now in let at = c .before .before .before .before .before .before .before .args .at in let byte : (i : ℕ) → getD bs i 0 < 256 = λ i. omega (arith, c .before .before .shared-slice-known5 .given i) in c .turned .ensures ∙ ap turnedWord (c .before .together .ensures) ∙ turned-word (getD bs at 0) (getD bs (at + 1) 0) (getD bs (at + 2) 0) (getD bs (at + 3) 0) (byte at) (byte (at + 1)) (byte (at + 2))
+returns c = let bs = c .before .before .before .before .before .before .before .args .file .now in let at = c .before .before .before .before .before .before .before .args .at in let byte : (i : ℕ) → getD bs i 0 < 256 = λ i. omega (arith, c .before .before .shared-slice-known5 .given i) in c .turned .ensures ∙ ap turnedWord (c .before .together .ensures) ∙ turned-word (getD bs at 0) (getD bs (at + 1) 0) (getD bs (at + 2) 0) (getD bs (at + 3) 0) (byte at) (byte (at + 1)) (byte (at + 2))
 
 pub word-at-spec : {M : Type 1} → statement M
 word-at-spec =
