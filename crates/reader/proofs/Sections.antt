@@ -12,7 +12,7 @@ use borrow.Author.Tests.{leb-true, eqb-true, le-leb, eq-eqb, ne-eqb}
 use Rattle.documents.specs.declared.Refusal.the-variants.{BadFile}
 use Rattle.documents.specs.Lists.{need}
 use Rattle.documents.specs.Numbers.{orRefuse}
-use Rattle.documents.specs.Calls.{wordsOf, Section, section, sectionIn, sectionsIn, withSection, File, file, fileIn, readAnswer, readCall, atFront}
+use Rattle.documents.specs.Calls.{wordsOf, fileSideWords, fileSubjectWords, Section, section, sectionIn, sectionsIn, withSection, File, file, fileIn, readAnswer, readCall, atFront}
 use Rattle.documents.proofs.Lists.{never, needed}
 use Rattle.reader.specs.Reader.{wordAt, wordsFrom, countIn, countsOf, given}
 use Rattle.reader.specs.declared.Count.{Count}
@@ -74,7 +74,7 @@ module _ (limit room at : ℕ) (bs : List ℕ) (n size : ℕ) (z : size ≡ 4 + 
       record {
         is = section-at c ∙ rw (le-leb (4 * n) (length (drop (at + 4) bs)) (simp length-drop (omega arith)));
         fits = countIn-fits limit room (drop at bs) n c .1;
-        whole = omega arith
+        whole = omega arith;
       }
 
   -- where something is missing behind the section, its own words may be
@@ -125,32 +125,40 @@ module _ (left right subject : ℕ) (bs : List ℕ) (long : 1 ≤ length bs) whe
     versioned : fileIn left right subject bs ≡ sectionsIn left right subject (drop 1 bs)
     versioned = fileIn-long left right subject bs long ∙ rw (eq-eqb (getD bs 0 0) 1 version)
 
-    pub no-left : countIn 1024 left (drop 1 bs) ≡ count.Missing → fileIn left right subject bs ≡ none
-    no-left h = versioned ∙ rw (sectionIn-none 1024 left (drop 1 bs) h)
+    pub no-left : countIn fileSideWords left (drop 1 bs) ≡ count.Missing → fileIn left right subject bs ≡ none
+    no-left h = versioned ∙ rw (sectionIn-none fileSideWords left (drop 1 bs) h)
 
-    module _ (l x : ℕ) (xs : x ≡ 4 + 4 * l) (lc : countIn 1024 left (drop 1 bs) ≡ count.Words l) where
-      pub no-right : countIn 1024 right (drop (1 + x) bs) ≡ count.Missing → fileIn left right subject bs ≡ none
-      no-right h = versioned ∙ section-then-none 1024 left 1 bs l x xs _ lc (λ w. rw (sectionIn-none 1024 right (drop (1 + x) bs) h))
+    module _ (l x : ℕ) (xs : x ≡ 4 + 4 * l) (lc : countIn fileSideWords left (drop 1 bs) ≡ count.Words l) where
+      pub no-right : countIn fileSideWords right (drop (1 + x) bs) ≡ count.Missing → fileIn left right subject bs ≡ none
+      no-right h = versioned ∙ section-then-none fileSideWords left 1 bs l x xs _ lc (λ w. rw (sectionIn-none fileSideWords right (drop (1 + x) bs) h))
 
-      module _ (r y : ℕ) (ys : y ≡ 4 + 4 * r) (rc : countIn 1024 right (drop (1 + x) bs) ≡ count.Words r) where
-        pub no-subject : countIn 8192 subject (drop (1 + x + y) bs) ≡ count.Missing → fileIn left right subject bs ≡ none
+      module _ (r y : ℕ) (ys : y ≡ 4 + 4 * r) (rc : countIn fileSideWords right (drop (1 + x) bs) ≡ count.Words r) where
+        pub no-subject : countIn fileSubjectWords subject (drop (1 + x + y) bs) ≡ count.Missing → fileIn left right subject bs ≡ none
         no-subject h =
-            versioned ∙ section-then-none 1024 left 1 bs l x xs _ lc (λ w. section-then-none 1024 right (1 + x) bs r y ys _ rc
-            (λ w. rw (sectionIn-none 8192 subject (drop (1 + x + y) bs) h)))
+            versioned ∙ section-then-none fileSideWords left 1 bs l x xs _ lc (λ w. section-then-none fileSideWords right (1 + x) bs r y ys _ rc
+            (λ w. rw (sectionIn-none fileSubjectWords subject (drop (1 + x + y) bs) h)))
 
-        module _ (s z : ℕ) (zs : z ≡ 4 + 4 * s) (sc : countIn 8192 subject (drop (1 + x + y) bs) ≡ count.Words s) where
+        module _ (s z : ℕ) (zs : z ≡ 4 + 4 * s) (sc : countIn fileSubjectWords subject (drop (1 + x + y) bs) ≡ count.Words s) where
           pub no-end : (length bs ≡ 1 + x + y + z → ⊥) → fileIn left right subject bs ≡ none
           no-end h =
-              versioned ∙ section-then-none 1024 left 1 bs l x xs _ lc (λ w. section-then-none 1024 right (1 + x) bs r y ys _ rc (λ w. section-then-none 8192 subject (1 + x + y) bs s z zs _ sc
+              versioned ∙ section-then-none fileSideWords left 1 bs l x xs _ lc (λ w. section-then-none fileSideWords right (1 + x) bs r y ys _ rc (λ w. section-then-none fileSubjectWords subject (1 + x + y) bs s z zs _ sc
               (λ w. rw (ne-eqb (length (drop (1 + x + y + z) bs)) 0 (λ e. h (omega (arith, simp length-drop at e)))))))
 
           pub at-end : length bs ≡ 1 + x + y + z → countsOf (fileIn left right subject bs) ≡ counts.Words l r s
           at-end h =
-              let hl = section-holds 1024 left 1 bs l x xs lc (omega arith) in
-              let hr = section-holds 1024 right (1 + x) bs r y ys rc (omega arith) in
-              let hs = section-holds 8192 subject (1 + x + y) bs s z zs sc (omega arith) in
-              rw (versioned, hl .is, hr .is, hs .is, eq-eqb (length (drop (1 + x + y + z) bs)) 0 (simp length-drop (omega arith)),
-                length-wordsFrom bs 5 l (hl .whole), length-wordsFrom bs (1 + x + 4) r (hr .whole), length-wordsFrom bs (1 + x + y + 4) s (hs .whole))
+              let hl = section-holds fileSideWords left 1 bs l x xs lc (omega arith) in
+              let hr = section-holds fileSideWords right (1 + x) bs r y ys rc (omega arith) in
+              let hs = section-holds fileSubjectWords subject (1 + x + y) bs s z zs sc (omega arith) in
+              rw (
+                versioned,
+                hl .is,
+                hr .is,
+                hs .is,
+                eq-eqb (length (drop (1 + x + y + z) bs)) 0 (simp length-drop (omega arith)),
+                length-wordsFrom bs 5 l (hl .whole),
+                length-wordsFrom bs (1 + x + 4) r (hr .whole),
+                length-wordsFrom bs (1 + x + y + 4) s (hs .whole),
+              )
 
 sections-is : (left right subject : ℕ) (bs : List ℕ) (f : File) → fileIn left right subject bs ≡ some f → sectionsIn left right subject (drop 1 bs) ≡ some f
 unfolding fileIn
@@ -165,25 +173,25 @@ withSection-is (some (section ws rest)) f a e k = k ws rest refl e
 -- that a whole file is there, and its tables have l, r and s words; x and y are the bytes of the first two sections
 pub record Tables (left right subject : ℕ) (bs : List ℕ) (l r s x y : ℕ) : Type 0 where
   pub is : fileIn left right subject bs ≡ some (file (wordsFrom bs 5 l) (wordsFrom bs (1 + x + 4) r) (wordsFrom bs (1 + x + y + 4) s))
-  pub left-holds : Holds 1024 left 1 bs l x
-  pub right-holds : Holds 1024 right (1 + x) bs r y
-  pub subject-holds : Holds 8192 subject (1 + x + y) bs s (4 + 4 * s)
+  pub left-holds : Holds fileSideWords left 1 bs l x
+  pub right-holds : Holds fileSideWords right (1 + x) bs r y
+  pub subject-holds : Holds fileSubjectWords subject (1 + x + y) bs s (4 + 4 * s)
 
 module _ (left right subject : ℕ) (bs : List ℕ) (l r s x y : ℕ) (xs : x ≡ 4 + 4 * l) (ys : y ≡ 4 + 4 * r) where
   tables-of : (L R S : List ℕ) → fileIn left right subject bs ≡ some (file L R S) → length L ≡ l → length R ≡ r → length S ≡ s → Tables left right subject bs l r s x y
   tables-of L R S e p q u =
-      withSection-is (sectionIn 1024 left (drop 1 bs)) _ (file L R S) (sections-is left right subject bs (file L R S) e) λ L₁ rest₁ e₁ f₁.
-      withSection-is (sectionIn 1024 right rest₁) _ (file L R S) f₁ λ R₁ rest₂ e₂ f₂.
-      withSection-is (sectionIn 8192 subject rest₂) _ (file L R S) f₂ λ S₁ rest₃ e₃ f₃.
+      withSection-is (sectionIn fileSideWords left (drop 1 bs)) _ (file L R S) (sections-is left right subject bs (file L R S) e) λ L₁ rest₁ e₁ f₁.
+      withSection-is (sectionIn fileSideWords right rest₁) _ (file L R S) f₁ λ R₁ rest₂ e₂ f₂.
+      withSection-is (sectionIn fileSubjectWords subject rest₂) _ (file L R S) f₂ λ S₁ rest₃ e₃ f₃.
       let z = needed (eqb (length rest₃) 0) (some (file L₁ R₁ S₁)) (file L R S) f₃ in
-      let (hl, (wl, d₁)) = section-is 1024 left 1 bs l x xs L₁ rest₁ e₁ (cc (z .1)) in
-      let (hr, (wr, d₂)) = section-is 1024 right (1 + x) bs r y ys R₁ rest₂ (rw d₁ at e₂) (cc (z .1)) in
-      let (hs, (ws, d₃)) = section-is 8192 subject (1 + x + y) bs s (4 + 4 * s) refl S₁ rest₃ (rw d₂ at e₃) (cc (z .1)) in
+      let (hl, (wl, d₁)) = section-is fileSideWords left 1 bs l x xs L₁ rest₁ e₁ (cc (z .1)) in
+      let (hr, (wr, d₂)) = section-is fileSideWords right (1 + x) bs r y ys R₁ rest₂ (rw d₁ at e₂) (cc (z .1)) in
+      let (hs, (ws, d₃)) = section-is fileSubjectWords subject (1 + x + y) bs s (4 + 4 * s) refl S₁ rest₃ (rw d₂ at e₃) (cc (z .1)) in
       record {
         is = e ∙ sym (z .1) ∙ rw (wl, wr, ws);
         left-holds = hl;
         right-holds = hr;
-        subject-holds = hs
+        subject-holds = hs;
       }
 
   -- a whole file, by its counts
@@ -198,7 +206,7 @@ module _ (left right subject : ℕ) (bs : List ℕ) (l r s x y : ℕ) (xs : x �
 
 pub readCall-done : (bs left right subject : List ℕ) (l r s x y : ℕ) → Tables (length left) (length right) (length subject) bs l r s x y
     → given (answer.Words l r s) (atFront left (wordsFrom bs 5 l)) (atFront right (wordsFrom bs (1 + x + 4) r)) (atFront subject (wordsFrom bs (1 + x + y + 4) s))
-      ≡ readCall bs left right subject
+    ≡ readCall bs left right subject
 unfolding readCall
 readCall-done bs left right subject l r s x y t =
     rw (t .is, length-wordsFrom bs 5 l (t .left-holds .whole), length-wordsFrom bs (1 + x + 4) r (t .right-holds .whole), length-wordsFrom bs (1 + x + y + 4) s (t .subject-holds .whole))

@@ -6,12 +6,18 @@ ghost use lib.ListN.{length, drop};
 ghost use Rattle.documents.specs.Calls.{bigEndian, atFront, fileIn, readCall};
 ghost use Rattle.reader.specs.Reader.{given, countsOf, countIn, wordsFrom, wordAt, turnedWord};
 
+// The version byte, and the place of the section behind it.
 const VERSION: u8 = 1;
-// Where the first section begins.
+
 const LEFT_AT: usize = 1;
-const BYTE: u32 = 256;
+
 const WORD_BYTES: usize = 4;
+
+const BYTE: u32 = 256;
+
+// The most words of a side and of a subject.
 const SIDE_WORDS: usize = 1024;
+
 const SUBJECT_WORDS: usize = 8192;
 
 // The word counts of left, right and subject, or a refusal.
@@ -42,7 +48,7 @@ enum Counts {
     Missing,
 }
 
-// A table's words are there where the next count is, or the end of the file.
+// That the words of a table are all there shows at the next count, or at the end.
 fn file_in(left: usize, right: usize, subject: usize, file: &[u8]) -> Counts
     ensures { λ r. ⌜ r ≡ countsOf (fileIn left right subject (now (file .entry))) ⌝ }
 {
@@ -93,27 +99,7 @@ fn count_in(limit: usize, room: usize, file: &[u8], at: usize) -> Count
     Count::Words(count)
 }
 
-// A count and that many words.
-fn section_bytes(count: u32) -> usize
-    ensures { λ r. ⌜ r ≡ 4 + 4 * count ⌝ }
-{
-    WORD_BYTES + WORD_BYTES * (count as usize)
-}
-
-// Words that stand at a place, to the front of a table.
-fn put_words(file: &[u8], at: usize, count: u32, table: &mut [u32])
-    requires { ⌜ (count ≤ length (now table)) × (at + 4 * count ≤ length (now file)) ⌝ }
-    ensures { λ _. ⌜ now (table .exit) ≡ atFront (now (table .entry)) (wordsFrom (now (file .entry)) at count) ⌝ }
-{
-    let words = count as usize;
-    let mut i: usize = 0;
-    while i < words {
-        table[i] = word_at(file, at + WORD_BYTES * i);
-        i += 1;
-    }
-}
-
-// The word at a place. Taken together in the machine's order and turned, so that it compiles to one load and one swap, and the loop above to vectors.
+// The word at a place. Its bytes are taken together in the machine's order and then turned: one load and one swap, and vectors in a loop.
 fn word_at(file: &[u8], at: usize) -> u32
     requires { ⌜ at + 4 ≤ length (now file) ⌝ }
     ensures { λ r. ⌜ r ≡ wordAt (now (file .entry)) at ⌝ }
@@ -132,5 +118,26 @@ fn together(a: u8, b: u8, c: u8, d: u8) -> u32
 fn turned(x: u32) -> u32
     ensures { λ r. ⌜ r ≡ turnedWord x ⌝ }
 {
-    ((x % BYTE * BYTE + x / BYTE % BYTE) * BYTE + x / BYTE / BYTE % BYTE) * BYTE + x / BYTE / BYTE / BYTE
+    ((x % BYTE * BYTE + x / BYTE % BYTE) * BYTE + x / BYTE / BYTE % BYTE) * BYTE
+        + x / BYTE / BYTE / BYTE
+}
+
+// A count and that many words.
+fn section_bytes(count: u32) -> usize
+    ensures { λ r. ⌜ r ≡ 4 + 4 * count ⌝ }
+{
+    WORD_BYTES + WORD_BYTES * (count as usize)
+}
+
+// The words from a place on, at the front of a table.
+fn put_words(file: &[u8], at: usize, count: u32, table: &mut [u32])
+    requires { ⌜ (count ≤ length (now table)) × (at + 4 * count ≤ length (now file)) ⌝ }
+    ensures { λ _. ⌜ now (table .exit) ≡ atFront (now (table .entry)) (wordsFrom (now (file .entry)) at count) ⌝ }
+{
+    let words = count as usize;
+    let mut i: usize = 0;
+    while i < words {
+        table[i] = word_at(file, at + WORD_BYTES * i);
+        i += 1;
+    }
 }

@@ -17,7 +17,12 @@ pub struct ReedReadAnswer {
 }
 
 #[no_mangle]
-pub extern "C" fn reed_read(file: &[u8], left: &mut [u32], right: &mut [u32], subject: &mut [u32]) -> ReedReadAnswer
+pub extern "C" fn reed_read(
+    file: &[u8],
+    left: &mut [u32],
+    right: &mut [u32],
+    subject: &mut [u32],
+) -> ReedReadAnswer
     ensures { λ r. ⌜ readGiven r (now (left .exit)) (now (right .exit)) (now (subject .exit)) ≡ readCall (now (file .entry)) (now (left .entry)) (now (right .entry)) (now (subject .entry)) ⌝ }
 {
     let answer = reader::read(file, left, right, subject);
