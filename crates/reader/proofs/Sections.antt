@@ -1,4 +1,4 @@
--- A file's sections, by their counts: at a place and in the code's arithmetic, with `size` for the bytes of a count and its words.
+-- A file's sections by their counts, at places of the file and in the code's arithmetic; `size` is the bytes of a count and its words.
 use mathlib.Core.Path.{_≡_, refl, sym, ap, _∙_}
 use mathlib.Core.List.{List, [], _∷_}
 use mathlib.Core.Option.{Option, none, some}
@@ -6,13 +6,13 @@ use mathlib.Core.Bool.{Bool, true, false, cond}
 use Prim.Native.Nat.{ℕ, _+_, _*_, _≤_, _<_}
 use native.Mathlib.Omega.{arith}
 use lib.Dec.{leb, eqb}
-use lib.ListN.{length, getD, take, drop, length-drop}
+use lib.ListN.{length, getD, drop, length-drop}
 use lib.Seq.{drop-drop}
-use borrow.Author.Tests.{leb-true, eqb-true, le-leb, eq-eqb, ne-eqb}
+use borrow.Author.Tests.{leb-true, le-leb, eq-eqb, ne-eqb}
 use Rattle.documents.specs.declared.Refusal.the-variants.{BadFile}
 use Rattle.documents.specs.Lists.{need}
 use Rattle.documents.specs.Numbers.{orRefuse}
-use Rattle.documents.specs.Calls.{wordsOf, fileSideWords, fileSubjectWords, Section, section, sectionIn, sectionsIn, withSection, File, file, fileIn, readAnswer, readCall, atFront}
+use Rattle.documents.specs.Calls.{fileSideWords, fileSubjectWords, Section, section, sectionIn, sectionsIn, withSection, File, file, fileIn, readAnswer, readCall, atFront}
 use Rattle.documents.proofs.Lists.{never, needed}
 use Rattle.reader.specs.Reader.{wordAt, wordsFrom, countIn, countsOf, given}
 use Rattle.reader.specs.declared.Count.{Count}
@@ -30,7 +30,7 @@ sectionOf bs (count.Words n) =
     need (leb (4 * n) (length (drop 4 bs))) (some (section (wordsFrom bs 4 n) (drop (4 * n) (drop 4 bs))))
 
 sectionIn-count : (limit room : ℕ) (bs : List ℕ) → sectionIn limit room bs ≡ sectionOf bs (countIn limit room bs)
-unfolding wordAt
+unfolding wordAt countIn
 sectionIn-count limit room bs = go (leb 4 (length bs)) (leb (wordAt bs 0) limit) (leb (wordAt bs 0) room)
   where
     go : (a b c : Bool)
@@ -41,6 +41,7 @@ sectionIn-count limit room bs = go (leb 4 (length bs)) (leb (wordAt bs 0) limit)
     go false b c = refl
 
 countIn-fits : (limit room : ℕ) (bs : List ℕ) (n : ℕ) → countIn limit room bs ≡ count.Words n → (4 ≤ length bs) × (n ≤ room)
+unfolding countIn
 countIn-fits limit room bs n e = go (leb 4 (length bs)) (leb (wordAt bs 0) limit) (leb (wordAt bs 0) room) refl refl e
   where
     go : (a b c : Bool) → leb 4 (length bs) ≡ a → leb (wordAt bs 0) room ≡ c
@@ -52,7 +53,7 @@ countIn-fits limit room bs n e = go (leb 4 (length bs)) (leb (wordAt bs 0) limit
     go true false c p q e = never (cc)
     go false b c p q e = never (cc)
 
-pub sectionIn-none : (limit room : ℕ) (bs : List ℕ) → countIn limit room bs ≡ count.Missing → sectionIn limit room bs ≡ none
+sectionIn-none : (limit room : ℕ) (bs : List ℕ) → countIn limit room bs ≡ count.Missing → sectionIn limit room bs ≡ none
 sectionIn-none limit room bs e = sectionIn-count limit room bs ∙ ap (sectionOf bs) e
 
 -- that the section at a place is there, and has n words
@@ -69,7 +70,7 @@ module _ (limit room at : ℕ) (bs : List ℕ) (n size : ℕ) (z : size ≡ 4 + 
       let e : at + 4 + 4 * n ≡ at + size = omega arith in
       sectionIn-count limit room (drop at bs) ∙ rw (c, drop-drop 4 at bs, drop-drop (4 * n) (at + 4) bs, e)
 
-  pub section-holds : countIn limit room (drop at bs) ≡ count.Words n → at + size ≤ length bs → Holds limit room at bs n size
+  section-holds : countIn limit room (drop at bs) ≡ count.Words n → at + size ≤ length bs → Holds limit room at bs n size
   section-holds c h =
       record {
         is = section-at c ∙ rw (le-leb (4 * n) (length (drop (at + 4) bs)) (simp length-drop (omega arith)));
@@ -77,8 +78,8 @@ module _ (limit room at : ℕ) (bs : List ℕ) (n size : ℕ) (z : size ≡ 4 + 
         whole = omega arith;
       }
 
-  -- where something is missing behind the section, its own words may be
-  pub section-then-none : {A : Type 0} (f : List ℕ → List ℕ → Option A) → countIn limit room (drop at bs) ≡ count.Words n
+  -- with something missing behind a section there is nothing, whether or not the section's own words are there
+  section-then-none : {A : Type 0} (f : List ℕ → List ℕ → Option A) → countIn limit room (drop at bs) ≡ count.Words n
       → (at + size ≤ length bs → f (wordsFrom bs (at + 4) n) (drop (at + size) bs) ≡ none) → withSection (sectionIn limit room (drop at bs)) f ≡ none
   section-then-none f c e = rw (section-at c) (go (leb (4 * n) (length (drop (at + 4) bs))) refl)
     where

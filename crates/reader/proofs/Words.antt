@@ -46,10 +46,12 @@ wordAt-take n bs k h =
 -- ---- A count
 
 pub countIn-short : (limit room : ℕ) (bs : List ℕ) (at : ℕ) → length bs < at + 4 → countIn limit room (drop at bs) ≡ count.Missing
+unfolding countIn
 countIn-short limit room bs at h = rw (lt-leb 4 (length (drop at bs)) (simp length-drop (omega arith)))
 
 module _ (limit room : ℕ) (bs : List ℕ) (at n : ℕ) (there : at + 4 ≤ length bs) (e : n ≡ wordAt bs at) where
   countIn-there : countIn limit room (drop at bs) ≡ cond (leb n limit) (cond (leb n room) (count.Words n) count.Missing) count.Missing
+  unfolding countIn
   countIn-there = rw (le-leb 4 (length (drop at bs)) (simp length-drop (omega arith)), wordAt-drop-here bs at, e)
 
   pub countIn-over-limit : limit < n → countIn limit room (drop at bs) ≡ count.Missing

@@ -31,7 +31,7 @@ unfoldable pub wordAt : List ℕ → ℕ → ℕ
 wordAt bs at = bigEndian (getD bs at 0) (getD bs (at + 1) 0) (getD bs (at + 2) 0) (getD bs (at + 3) 0)
 
 -- the count that bytes begin with, at most `limit` and `room`
-abbrev pub countIn : ℕ → ℕ → List ℕ → Count
+unfoldable pub countIn : ℕ → ℕ → List ℕ → Count
 countIn limit room bs =
     let n = wordAt bs 0 in
     cond (leb 4 (length bs)) (cond (leb n limit) (cond (leb n room) (count.Words n) count.Missing) count.Missing) count.Missing

@@ -1,4 +1,4 @@
-// The C interface (include/reedbiscuit.h): each call hands its slices on to the crate that does the work, and gives the answer back as 01's numbers.
+// The C interface: each call hands its slices on to the crate that does the work, and gives the answer back as 01's numbers.
 use reader::Answer;
 ghost use mathlib.Core.Path.{_≡_};
 ghost use Rattle.documents.specs.Calls.{readCall};
@@ -7,7 +7,7 @@ ghost use Rattle.reedbiscuit.specs.Answers.{readNumber, readGiven};
 // 01's number where nothing is refused.
 const DONE: u32 = 0;
 
-// Called reed_read_answer in C.
+// The C header calls it reed_read_answer.
 #[repr(C)]
 pub struct ReedReadAnswer {
     pub number: u32,
@@ -16,6 +16,7 @@ pub struct ReedReadAnswer {
     pub subject: u32,
 }
 
+// Document 01's reader: the words of a file's three tables at the front of the lent ones.
 #[no_mangle]
 pub extern "C" fn reed_read(
     file: &[u8],
@@ -42,6 +43,7 @@ pub extern "C" fn reed_read(
     }
 }
 
+// 01's number of the reader's answer.
 fn read_number(answer: Answer) -> u32
     ensures { λ r. ⌜ r ≡ readNumber answer ⌝ }
 {
