@@ -3,7 +3,7 @@ use mathlib.Core.Path.{_≡_, refl, sym, ap, _∙_}
 use mathlib.Core.List.{List, [], _∷_}
 use mathlib.Core.Option.{Option, none, some}
 use mathlib.Core.Bool.{Bool, true, false, cond}
-use Prim.Native.Nat.{ℕ, _+_, _*_, _≤_, _<_}
+use Prim.Native.Nat.{ℕ, _+_, _*_, _≤_}
 use native.Mathlib.Omega.{arith}
 use lib.Dec.{leb, eqb}
 use lib.ListN.{length, getD, drop, length-drop}
@@ -52,6 +52,9 @@ countIn-fits limit room bs n e = go (leb 4 (length bs)) (leb (wordAt bs 0) limit
     go true true false p q e = never (cc)
     go true false c p q e = never (cc)
     go false b c p q e = never (cc)
+
+pub count-there : (limit room at : ℕ) (bs : List ℕ) (n : ℕ) → countIn limit room (drop at bs) ≡ count.Words n → at + 4 ≤ length bs
+count-there limit room at bs n c = omega (arith, simp length-drop at (countIn-fits limit room (drop at bs) n c .0))
 
 sectionIn-none : (limit room : ℕ) (bs : List ℕ) → countIn limit room bs ≡ count.Missing → sectionIn limit room bs ≡ none
 sectionIn-none limit room bs e = sectionIn-count limit room bs ∙ ap (sectionOf bs) e
@@ -107,39 +110,44 @@ module _ (limit room at : ℕ) (bs : List ℕ) (n size : ℕ) (z : size ≡ 4 + 
 
 -- ---- A file
 
-pub fileIn-short : (left right subject : ℕ) (bs : List ℕ) → length bs < 1 → fileIn left right subject bs ≡ none
-unfolding fileIn
-fileIn-short left right subject [] h = refl
-fileIn-short left right subject (v ∷ bs) h = absurd (omega arith)
-
 fileIn-long : (left right subject : ℕ) (bs : List ℕ) → 1 ≤ length bs → fileIn left right subject bs ≡ need (eqb (getD bs 0 0) 1) (sectionsIn left right subject (drop 1 bs))
 unfolding fileIn
 fileIn-long left right subject [] h = absurd (omega arith)
 fileIn-long left right subject (v ∷ bs) h = refl
 
--- the refusals in their order, each with what was found before it; x, y and z are the bytes of the three sections
-module _ (left right subject : ℕ) (bs : List ℕ) (long : 1 ≤ length bs) where
-  pub no-version : (getD bs 0 0 ≡ 1 → ⊥) → fileIn left right subject bs ≡ none
-  no-version h = fileIn-long left right subject bs long ∙ rw (ne-eqb (getD bs 0 0) 1 h)
+need-none : {A : Type 0} (q : Bool) → need {A = A} q none ≡ none
+need-none true = refl
+need-none false = refl
 
-  module _ (version : getD bs 0 0 ≡ 1) where
-    versioned : fileIn left right subject bs ≡ sectionsIn left right subject (drop 1 bs)
-    versioned = fileIn-long left right subject bs long ∙ rw (eq-eqb (getD bs 0 0) 1 version)
+-- the refusals in the code's order, each with what was found before it; x, y and z are the bytes of the three sections
+pub no-left : (left right subject : ℕ) (bs : List ℕ) → countIn fileSideWords left (drop 1 bs) ≡ count.Missing → fileIn left right subject bs ≡ none
+unfolding fileIn
+no-left left right subject [] h = refl
+no-left left right subject (v ∷ bs) h = rw (sectionIn-none fileSideWords left bs h) (need-none (eqb v 1))
 
-    pub no-left : countIn fileSideWords left (drop 1 bs) ≡ count.Missing → fileIn left right subject bs ≡ none
-    no-left h = versioned ∙ rw (sectionIn-none fileSideWords left (drop 1 bs) h)
+module _ (left right subject : ℕ) (bs : List ℕ) where
+  module _ (l : ℕ) (lc : countIn fileSideWords left (drop 1 bs) ≡ count.Words l) where
+    counted : fileIn left right subject bs ≡ need (eqb (getD bs 0 0) 1) (sectionsIn left right subject (drop 1 bs))
+    counted = fileIn-long left right subject bs (omega (arith, count-there fileSideWords left 1 bs l lc))
 
-    module _ (l x : ℕ) (xs : x ≡ 4 + 4 * l) (lc : countIn fileSideWords left (drop 1 bs) ≡ count.Words l) where
+    pub no-version : (getD bs 0 0 ≡ 1 → ⊥) → fileIn left right subject bs ≡ none
+    no-version h = counted ∙ rw (ne-eqb (getD bs 0 0) 1 h)
+
+    module _ (version : getD bs 0 0 ≡ 1) (x : ℕ) (xs : x ≡ 4 + 4 * l) where
+      versioned : fileIn left right subject bs ≡ sectionsIn left right subject (drop 1 bs)
+      versioned = counted ∙ rw (eq-eqb (getD bs 0 0) 1 version)
+
       pub no-right : countIn fileSideWords right (drop (1 + x) bs) ≡ count.Missing → fileIn left right subject bs ≡ none
-      no-right h = versioned ∙ section-then-none fileSideWords left 1 bs l x xs _ lc (λ w. rw (sectionIn-none fileSideWords right (drop (1 + x) bs) h))
+      no-right h =
+          versioned ∙ section-then-none fileSideWords left 1 bs l x xs _ lc (λ w. rw (sectionIn-none fileSideWords right (drop (1 + x) bs) h))
 
-      module _ (r y : ℕ) (ys : y ≡ 4 + 4 * r) (rc : countIn fileSideWords right (drop (1 + x) bs) ≡ count.Words r) where
+      module _ (r : ℕ) (rc : countIn fileSideWords right (drop (1 + x) bs) ≡ count.Words r) (y : ℕ) (ys : y ≡ 4 + 4 * r) where
         pub no-subject : countIn fileSubjectWords subject (drop (1 + x + y) bs) ≡ count.Missing → fileIn left right subject bs ≡ none
         no-subject h =
             versioned ∙ section-then-none fileSideWords left 1 bs l x xs _ lc (λ w. section-then-none fileSideWords right (1 + x) bs r y ys _ rc
             (λ w. rw (sectionIn-none fileSubjectWords subject (drop (1 + x + y) bs) h)))
 
-        module _ (s z : ℕ) (zs : z ≡ 4 + 4 * s) (sc : countIn fileSubjectWords subject (drop (1 + x + y) bs) ≡ count.Words s) where
+        module _ (s : ℕ) (sc : countIn fileSubjectWords subject (drop (1 + x + y) bs) ≡ count.Words s) (z : ℕ) (zs : z ≡ 4 + 4 * s) where
           pub no-end : (length bs ≡ 1 + x + y + z → ⊥) → fileIn left right subject bs ≡ none
           no-end h =
               versioned ∙ section-then-none fileSideWords left 1 bs l x xs _ lc (λ w. section-then-none fileSideWords right (1 + x) bs r y ys _ rc (λ w. section-then-none fileSubjectWords subject (1 + x + y) bs s z zs _ sc

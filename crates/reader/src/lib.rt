@@ -48,19 +48,16 @@ enum Counts {
     Missing,
 }
 
-// That the words of a table are all there shows at the next count, or at the end.
+// That the version is there shows at the first count; that a table's words are, at the next count or at the end.
 fn file_in(left: usize, right: usize, subject: usize, file: &[u8]) -> Counts
     ensures { λ r. ⌜ r ≡ countsOf (fileIn left right subject (now (file .entry))) ⌝ }
 {
-    if file.len() < LEFT_AT {
-        return Counts::Missing;
-    }
-    if file[0] != VERSION {
-        return Counts::Missing;
-    }
     let Count::Words(l) = count_in(SIDE_WORDS, left, file, LEFT_AT) else {
         return Counts::Missing;
     };
+    if file[0] != VERSION {
+        return Counts::Missing;
+    }
     let right_at = LEFT_AT + section_bytes(l);
     let Count::Words(r) = count_in(SIDE_WORDS, right, file, right_at) else {
         return Counts::Missing;
