@@ -1,0 +1,54 @@
+// The C interface: each call hands its slices on to the crate that does the work, and gives the answer back as 01's numbers.
+use reader::Answer;
+ghost use mathlib.Core.Path.{_≡_};
+ghost use Rattle.documents.specs.Calls.{readCall};
+ghost use Rattle.reedbiscuit.specs.Answers.{readNumber, readGiven};
+
+// 01's number where nothing is refused.
+const DONE: u32 = 0;
+
+// The C header calls it reed_read_answer.
+#[repr(C)]
+pub struct ReedReadAnswer {
+    pub number: u32,
+    pub left: u32,
+    pub right: u32,
+    pub subject: u32,
+}
+
+// Document 01's reader: the words of a file's three tables at the front of the lent ones.
+#[no_mangle]
+pub extern "C" fn reed_read(
+    file: &[u8],
+    left: &mut [u32],
+    right: &mut [u32],
+    subject: &mut [u32],
+) -> ReedReadAnswer
+    ensures { λ r. ⌜ readGiven r (now (left .exit)) (now (right .exit)) (now (subject .exit)) ≡ readCall (now (file .entry)) (now (left .entry)) (now (right .entry)) (now (subject .entry)) ⌝ }
+{
+    let answer = reader::read(file, left, right, subject);
+    let Answer::Words(l, r, s) = answer else {
+        return ReedReadAnswer {
+            number: read_number(answer),
+            left: 0,
+            right: 0,
+            subject: 0,
+        };
+    };
+    ReedReadAnswer {
+        number: DONE,
+        left: l,
+        right: r,
+        subject: s,
+    }
+}
+
+// 01's number of the reader's answer.
+fn read_number(answer: Answer) -> u32
+    ensures { λ r. ⌜ r ≡ readNumber answer ⌝ }
+{
+    let Answer::Refused(why) = answer else {
+        return DONE;
+    };
+    documents::number(why)
+}
