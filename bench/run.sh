@@ -31,7 +31,7 @@ a_word() {
 }
 
 # name and words of each file
-files=('smallest 0' 'beta 30' 'largest 10240' 'refused 10240')
+files=('smallest 0' 'three 3' 'beta 30' 'odd 10235' 'largest 10240' 'refused 10240')
 
 echo '| file | words | `reed_read` | a word | `second::read` | a word |'
 echo '|---|--:|--:|--:|--:|--:|'

@@ -1,8 +1,8 @@
 //! `reed-bench SIDE FILE TIMES`: reads a file so many times, for callgrind to count instructions.
 //! `reed-bench SIDE FILE stack`: reads it once and prints how many bytes of stack that took.
 //!
-//! SIDE is `reedbiscuit` or `second`, FILE one of `smallest beta largest refused`. run.sh makes a
-//! table of it all.
+//! SIDE is `reedbiscuit` or `second`, FILE one of `smallest three beta odd largest refused`.
+//! run.sh makes a table of it all.
 
 mod stack;
 
@@ -61,7 +61,9 @@ fn case_of(name: &str) -> Case {
     let subject: Vec<u32> = (0..FILE_SUBJECT_WORDS as u32).collect();
     let mut file = match name {
         "smallest" => file_of(&[], &[], &[]),
+        "three" => file_of(&side[..1], &side[..1], &subject[..1]),
         "beta" => include_bytes!("../../examples/beta.rule").to_vec(),
+        "odd" => file_of(&side[1..], &side[3..], &subject[1..]),
         "largest" | "refused" => file_of(&side, &side, &subject),
         _ => panic!("no such file: {name}"),
     };
