@@ -1,41 +1,35 @@
 -- The table check. `termIn` reads a table from its end; `holds` counts the terms, so that a walk from the front, with a running count of those
 -- still owed, decides the same. Then the depth, level by level, and what an accepted table holds.
-use mathlib.Core.Path.{_≡_, refl, sym, ap, _∙_}
+use mathlib.Core.Path.{_≡_, refl, sym, ap, ap₂, _∙_}
 use Prim.Native.Nat.{ℕ, zero, suc, _+_, _-_, _*_, _/_, _%_, _≤_, _<_, max}
 use native.Mathlib.Nat.{add-zero}
+use native.Mathlib.Numerals.{add-one}
 use native.Mathlib.Omega.{arith}
 use mathlib.Core.Bool.{Bool, true, false, _&&_, cond}
 use mathlib.Core.Option.{Option, none, some}
 use mathlib.Core.List.{List, [], _∷_, _++_, append-nil}
-use lib.Dec.{eqb, leb, ltb, eqb·suc-suc, eqb·zero-suc}
-use lib.ListN.{length, drop, getD, length-drop}
-use lib.Seq.{drop-at}
+use lib.Dec.{eqb, leb, ltb, leb·suc-suc, eqb·suc-suc, eqb·zero-suc}
+use lib.ListN.{length, drop, getD, set, replicate, length-drop, length-set}
+use lib.Seq.{drop-at, getD-set-same, getD-set-other}
 use borrow.Author.Tests.{le-leb, lt-leb, ne-eqb, eqb-true, leb-true, leb-false}
 use Rattle.documents.specs.Limits.{argumentLimit, planLimit, depthLimit}
 use Rattle.documents.specs.Lists.{need, andThen, isEmpty}
-use Rattle.documents.specs.Terms.{Sort, Tm, Var, Sym, Meta, Abst, Nil, Cons, Term, Terms}
-use Rattle.documents.specs.Tables.{other, kindOf, grab, abstract, node, termsIn, single, termIn, tableOf, Fits, nodes, depth, subterm}
+use Rattle.documents.specs.Terms.{Sort, many, Tm, Var, Sym, Meta, Abst, Nil, Cons, Term, Terms, len}
+use Rattle.documents.specs.Tables.{kindOf, grab, abstract, node, termsIn, single, termIn, tableOf, Fits, nodes, depth, subterm}
 use Rattle.documents.specs.declared.Refusal.{Refusal}
 use Rattle.documents.specs.Rules.{metas}
 use Rattle.documents.specs.Numbers.{Answer, answered, refused, unless, orRefuse, with, tableIn, subjectIn}
-use Rattle.documents.proofs.Lists.{never, on, T-of, of-and, andThen-is}
-use Rattle.documents.proofs.Tables.{tableOf-termIn, length-tableOf, termsIn-tableOf, termsIn-tablesOf, subterm-place}
+use Rattle.documents.proofs.Lists.{never, on, T-of, of-and, and-assoc, and-true, andThen-is}
+use Rattle.documents.proofs.Tables.{before, tableOf-termIn, length-tableOf, termsIn-tableOf, termsIn-tablesOf, subterm-place}
 use Rattle.documents.proofs.Numbers.{tableIn-held}
-use Rattle.tables.specs.Parts.{held, terms, front, Begins, wordCount}
+use Rattle.tables.specs.Parts.{held, firstTerms, terms, front, Begins, wordCount}
 use Rattle.tables.specs.declared.accept.Sized.the-variants.{Nodes, Refused}
 use Rattle.tables.specs.Answers.{sized, isThere, isGood, fitsKind, inLayout}
-use Rattle.tables.proofs.Parts.{only, headed, Shape, two, no-terms, front-term}
-use Rattle.tables.proofs.Walks.{at-node, Walk}
+use Rattle.tables.proofs.Parts.{join, only, headed, Shape, Opened, opened, first-before, two, front-term, begins-less}
+use Rattle.tables.proofs.Walks.{Walk, walk-from, walk-on}
 use Rattle.documents.specs.declared.Refusal.the-variants as refusal
 
 -- ---- The layout of a node
-
-kind-other : (k : ℕ) → 4 ≤ k → kindOf k ≡ other
-kind-other zero h = absurd (omega arith)
-kind-other (suc zero) h = absurd (omega arith)
-kind-other (suc (suc zero)) h = absurd (omega arith)
-kind-other (suc (suc (suc zero))) h = absurd (omega arith)
-kind-other (suc (suc (suc (suc k)))) h = refl
 
 module _ (w c : ℕ) where
   pub layout-variable : w < 65536 → inLayout w c ≡ eqb c 0
@@ -232,33 +226,137 @@ leb-max x y l = go (leb x l) (leb y l) refl refl
     go true false p q = let b = leb-false y l q in lt-leb (max x y) l (omega arith)
     go false q p _ = let a = leb-false x l p in lt-leb (max x y) l (omega arith)
 
-module _ {t : List ℕ} {a n : ℕ} (w : Walk t a n) (h : 0 < n) (levels : ℕ) where
-  deep-node : leb (depth (terms n (drop a t))) levels
-      ≡ leb (1 + depth (terms (getD t (a + 1) 0) (drop (a + 2) t))) levels
-      && leb (depth (terms (n - 1) (drop (a + 2 + wordCount (terms (getD t (a + 1) 0) (drop (a + 2) t))) t))) levels
-  deep-node =
-      let p = at-node t a n (w .begins) h in
-      rw (p .terms-are, depth-headed _ _ (terms (getD t (a + 1) 0) (drop (a + 2) t)) (p .shape)) (leb-max _ _ levels)
+-- terms that are owed level by level, the innermost first, are not deeper than the levels that are left for them
+abbrev pub shallow : List ℕ → ℕ → List Term → Bool
+shallow [] levels us = true
+shallow (n ∷ ns) levels us = leb (depth (firstTerms n us)) levels && shallow ns (suc levels) (drop n us)
 
-  -- no level is left for a node
-  pub deep-none : levels ≡ 0 → leb (depth (terms n (drop a t))) levels ≡ false
-  deep-none z = deep-node ∙ rw (lt-leb (1 + depth (terms (getD t (a + 1) 0) (drop (a + 2) t))) levels (omega arith)) refl
+join-nil : (ts : Terms) → join ts Nil ≡ ts
+join-nil Nil = refl
+join-nil (Cons t ts) = ap (Cons t) (join-nil ts)
 
-  pub deep-leaf : 0 < levels → getD t (a + 1) 0 ≡ 0 → leb (depth (terms n (drop a t))) levels ≡ leb (depth (terms (n - 1) (drop (a + 2) t))) levels
-  deep-leaf k z =
-      let e : terms (getD t (a + 1) 0) (drop (a + 2) t) ≡ Nil = rw z (no-terms (drop (a + 2) t)) in
-      rw (add-zero (a + 2), le-leb (1 + 0) levels k) at (rw e at deep-node)
+first-arguments : (ts : Terms) (us : List Term) → firstTerms (len ts) (before many ts us) ≡ ts
+first-arguments ts us = rw (add-zero (len ts)) at (first-before ts us 0 ∙ join-nil ts)
 
-  pub deep-inside : 0 < levels → leb (depth (terms (getD t (a + 1) 0) (drop (a + 2) t))) (levels - 1) ≡ true
-      → leb (depth (terms n (drop a t))) levels ≡ leb (depth (terms (n - 1) (drop (a + 2 + wordCount (terms (getD t (a + 1) 0) (drop (a + 2) t))) t))) levels
-  deep-inside k e =
-      let d = leb-true (depth (terms (getD t (a + 1) 0) (drop (a + 2) t))) (levels - 1) e in
-      rw (le-leb (1 + depth (terms (getD t (a + 1) 0) (drop (a + 2) t))) levels (omega arith)) at deep-node
+drop-arguments : (ts : Terms) (us : List Term) → drop (len ts) (before many ts us) ≡ us
+drop-arguments Nil us = refl
+drop-arguments (Cons t ts) us = drop-arguments ts us
 
-  pub deep-too : 0 < levels → leb (depth (terms (getD t (a + 1) 0) (drop (a + 2) t))) (levels - 1) ≡ false → leb (depth (terms n (drop a t))) levels ≡ false
-  deep-too k e =
-      let d = leb-false (depth (terms (getD t (a + 1) 0) (drop (a + 2) t))) (levels - 1) e in
-      deep-node ∙ rw (lt-leb (1 + depth (terms (getD t (a + 1) 0) (drop (a + 2) t))) levels (omega arith)) refl
+leb-one : (x l : ℕ) → leb (1 + x) (suc l) ≡ leb x l
+leb-one x l = let e : 1 + x ≡ suc x = omega arith in rw e (leb·suc-suc x l)
+
+-- a node: its arguments are owed one level further in
+opened-shallow : {k s c : ℕ} {us vs : List Term} (n levels : ℕ) (ns : List ℕ) → Opened k s c us vs → shallow (suc n ∷ ns) (suc levels) us ≡ shallow (c ∷ n ∷ ns) levels vs
+opened-shallow {k} {s} {c} {us} {vs} n levels ns o =
+    rw (
+      o .node,
+      o .inside,
+      ← (o .count),
+      first-arguments (o .arguments) (o .rest),
+      drop-arguments (o .arguments) (o .rest),
+      depth-headed k s (o .arguments) (o .shape),
+      leb-max (1 + depth (o .arguments)) (depth (firstTerms n (o .rest))) (suc levels),
+      leb-one (depth (o .arguments)) levels,
+    )
+    (sym (and-assoc (leb (depth (o .arguments)) levels) (leb (depth (firstTerms n (o .rest))) (suc levels)) (shallow ns (suc (suc levels)) (drop n (o .rest)))))
+
+-- the numbers at the front of an array, the last of them first
+abbrev pub listed : List ℕ → ℕ → List ℕ
+listed above zero = []
+listed above (suc k) = getD above k 0 ∷ listed above k
+
+listed-set : (above : List ℕ) (k m v : ℕ) → k ≤ m → listed (set above m v) k ≡ listed above k
+listed-set above zero m v h = refl
+listed-set above (suc k) m v h = ap₂ (λ (x : ℕ) (l : List ℕ). x ∷ l) (getD-set-other above m k v 0 (λ e. omega arith)) (listed-set above k m v (omega arith))
+
+abbrev pub total : List ℕ → ℕ
+total [] = 0
+total (n ∷ ns) = n + total ns
+
+depth-positive : (t : Term) → 0 < depth t
+depth-positive (Var x) = omega arith
+depth-positive (Sym s ts) = omega arith
+depth-positive (Meta z ts) = omega arith
+depth-positive (Abst t) = omega arith
+
+-- Where the walk of a table's levels stands: `owed` terms at the innermost level, and above it those of each open one.
+pub record Levels (table : List ℕ) (above : List ℕ) (level owed at : ℕ) : Type 0 where
+  pub walk : Walk table at (owed + total (listed above level))
+  pub same : shallow (owed ∷ listed above level) (64 - level) (held (drop at table)) ≡ leb (depth (front table)) 64
+  pub few : level ≤ 63
+  pub room : length above ≡ 64
+
+pub levels-from : {table : List ℕ} → Begins 1 table → Levels table (replicate 64 0) 0 1 0
+unfolding terms
+levels-from {table} b = record {
+  walk = walk-from b;
+  same =
+      let e : depth (terms 1 table) ≡ depth (front table) = let f : depth (terms 1 table) ≡ max (depth (front table)) 0 = ap (λ (x : Terms). depth x) (front-term table b) in omega arith in
+      rw e (and-true (leb (depth (front table)) 64));
+  few = omega arith;
+  room = refl;
+}
+
+module _ {table above : List ℕ} {level owed at : ℕ} (l : Levels table above level owed at) where
+  -- a level is done
+  pub levels-up : owed ≡ 0 → 0 < level → Levels table above (level - 1) (getD above (level - 1) 0) at
+  levels-up z h = go level h l
+    where
+      go : (level : ℕ) → 0 < level → Levels table above level owed at → Levels table above (level - 1) (getD above (level - 1) 0) at
+      go zero h l = absurd (omega arith)
+      go (suc k) h l =
+          let e : suc k - 1 ≡ k = omega arith in
+          let f : suc (64 - suc k) ≡ 64 - k = let q = l .few in omega arith in
+          let w : owed + total (listed above (suc k)) ≡ getD above k 0 + total (listed above k) = omega arith in
+          rw e (record { walk = rw w at (l .walk); same = rw (z, le-leb 0 (64 - suc k) (omega arith), f) at (l .same); few = let q = l .few in omega arith; room = l .room })
+
+  pub levels-end : owed ≡ 0 → level ≡ 0 → true ≡ leb (depth (front table)) 64
+  levels-end z e = rw (z, e) at (l .same)
+
+  -- the terms behind a node's words
+  inside : (h : 0 < owed) → shallow (getD table (at + 1) 0 ∷ (owed - 1) ∷ listed above level) (63 - level) (held (drop (at + 2) table)) ≡ leb (depth (front table)) 64
+  inside h =
+      let o = opened table at (l .walk .begins) (omega arith) .1 in
+      let e : owed ≡ suc (owed - 1) = omega arith in
+      let f : 64 - level ≡ suc (63 - level) = let q = l .few in omega arith in
+      sym (opened-shallow (owed - 1) (63 - level) (listed above level) o) ∙ rw (e, f) at (l .same)
+
+  levels-inside : (above′ : List ℕ) (level′ owed′ : ℕ) → 0 < owed → owed′ + total (listed above′ level′) ≡ owed + total (listed above level) - 1 + getD table (at + 1) 0
+      → shallow (owed′ ∷ listed above′ level′) (64 - level′) (held (drop (at + 2) table)) ≡ leb (depth (front table)) 64
+      → level′ ≤ 63 → length above′ ≡ 64 → Levels table above′ level′ owed′ (at + 2)
+  levels-inside above′ level′ owed′ h n s f r = record {
+    walk = rw n (walk-on (l .walk) (omega arith));
+    same = s;
+    few = f;
+    room = r;
+  }
+
+  -- a node without arguments
+  pub levels-leaf : 0 < owed → getD table (at + 1) 0 ≡ 0 → Levels table above level (owed - 1) (at + 2)
+  levels-leaf h z =
+      let f : 64 - level ≡ suc (63 - level) = let q = l .few in omega arith in
+      levels-inside above level (owed - 1) h (omega arith) (rw f (rw (z, le-leb 0 (63 - level) (omega arith)) at (inside h))) (l .few) (l .room)
+
+  -- a node with arguments, which are owed one level further in
+  pub levels-down : 0 < owed → level < 63 → Levels table (set above level (owed - 1)) (level + 1) (getD table (at + 1) 0) (at + 2)
+  levels-down h k =
+      let g : level < length above = let q = l .room in omega arith in
+      let e : listed (set above level (owed - 1)) (level + 1) ≡ (owed - 1) ∷ listed above level =
+      rw (add-one level, getD-set-same above level (owed - 1) 0 g, listed-set above level level (owed - 1) (omega arith)) refl in
+      let f : 64 - (level + 1) ≡ 63 - level = omega arith in
+      levels-inside (set above level (owed - 1)) (level + 1) (getD table (at + 1) 0) h (rw e (omega arith)) (rw (e, f) (inside h)) (omega arith) (simp length-set (l .room))
+
+  -- no level is left for a node's arguments
+  pub levels-deep : 0 < owed → level ≡ 63 → (getD table (at + 1) 0 ≡ 0 → ⊥) → false ≡ leb (depth (front table)) 64
+  levels-deep h e c =
+      let z : 63 - level ≡ 0 = omega arith in
+      let b = begins-less (getD table (at + 1) 0) (omega arith) (walk-on (l .walk) (omega arith) .begins) in
+      rw (some-depth (getD table (at + 1) 0) (held (drop (at + 2) table)) (omega arith) (b .enough)) at (rw z at (inside h))
+    where
+      some-depth : (n : ℕ) (us : List Term) → 0 < n → n ≤ length us → leb (depth (firstTerms n us)) 0 ≡ false
+      some-depth zero us h k = absurd (omega arith)
+      some-depth (suc n) [] h k = absurd (omega arith)
+      some-depth (suc n) (u ∷ us) h k = let d = depth-positive u in lt-leb (max (depth u) (depth (firstTerms n us))) 0 (omega arith)
 
 -- ---- The whole check
 
@@ -280,19 +378,14 @@ module _ (limit : ℕ) (t : List ℕ) where
   unfolding tableIn
   good-answer h e = rw (le-leb (length t) (2 * limit) h, good-begins t e .1) refl
 
-  front-depth : isGood t ≡ true → depth (terms 1 t) ≡ depth (front t)
-  front-depth e =
-      let f : depth (terms 1 t) ≡ max (depth (front t)) 0 = ap (λ (x : Terms). depth x) (front-term t (good-begins t e .0)) in
-      omega arith
+  pub accept-deep : length t ≤ 2 * limit → isGood t ≡ true → leb (depth (front t)) depthLimit ≡ false → sized (tableIn limit t) ≡ Refused refusal.TooDeep
+  accept-deep h e d = rw (good-answer h e, d) refl
 
-  pub accept-deep : length t ≤ 2 * limit → isGood t ≡ true → leb (depth (terms 1 t)) depthLimit ≡ false → sized (tableIn limit t) ≡ Refused refusal.TooDeep
-  accept-deep h e d = rw (good-answer h e, ← (front-depth e), d) refl
-
-  pub accept-good : length t ≤ 2 * limit → isGood t ≡ true → leb (depth (terms 1 t)) depthLimit ≡ true → sized (tableIn limit t) ≡ Nodes (length t / 2)
+  pub accept-good : length t ≤ 2 * limit → isGood t ≡ true → leb (depth (front t)) depthLimit ≡ true → sized (tableIn limit t) ≡ Nodes (length t / 2)
   accept-good h e d =
       let w = good-begins t e .2 in
       let n : nodes (front t) ≡ length t / 2 = omega arith in
-      rw (good-answer h e, ← (front-depth e), d) (ap Nodes n)
+      rw (good-answer h e, d) (ap Nodes n)
 
 -- ---- What callers know of an accepted table
 

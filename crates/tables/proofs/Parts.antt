@@ -9,14 +9,14 @@ use mathlib.Core.Option.{Option, none, some}
 use mathlib.Core.List.{List, [], _∷_}
 use lib.Dec.{eqb, leb}
 use lib.ListN.{length, take, drop, getD, length-drop, length-append}
-use lib.Seq.{drop-cons, drop-drop, drop-at, take-all}
+use lib.Seq.{drop-cons, drop-at, take-all}
 use borrow.Author.Tests.{eqb-true, leb-true}
 use Rattle.documents.specs.Limits.{argumentLimit}
 use Rattle.documents.specs.Lists.{andThen}
 use Rattle.documents.specs.Terms.{many, Var, Sym, Meta, Abst, Nil, Cons, Term, Terms, len}
 use Rattle.documents.specs.Tables.{kindOf, node, abstract, termsIn, nodes, tableOf}
 use Rattle.documents.proofs.Lists.{never, needed}
-use Rattle.documents.proofs.Tables.{before, Grabbed, grabbed, tablesOf, Holds, termsIn-holds, termsIn-tablesOf, length-tableOf}
+use Rattle.documents.proofs.Tables.{before, Grabbed, grabbed, tablesOf, termsIn-holds, termsIn-tablesOf, length-tableOf}
 use Rattle.tables.specs.Parts.{orEmpty, held, firstTerms, terms, front, Begins, wordCount}
 
 -- ---- A node, and the terms that its words stand before
@@ -161,7 +161,7 @@ length-before : (ts : Terms) (us : List Term) → length (before many ts us) ≡
 length-before Nil us = sym (zero-add (length us))
 length-before (Cons t ts) us = rw (length-before ts us, suc-add)
 
-first-before : (ts : Terms) (us : List Term) (n : ℕ) → firstTerms (len ts + n) (before many ts us) ≡ join ts (firstTerms n us)
+pub first-before : (ts : Terms) (us : List Term) (n : ℕ) → firstTerms (len ts + n) (before many ts us) ≡ join ts (firstTerms n us)
 first-before Nil us n = rw zero-add
 first-before (Cons t ts) us n = rw suc-add (ap (Cons t) (first-before ts us n))
 
@@ -211,10 +211,6 @@ begins-inside t a n b h =
 
 -- ---- Whole terms
 
--- terms that are held: their words, and that each fits
-held-words : (part : List ℕ) → termsIn part ≡ some (held part) → Holds part (held part)
-held-words part e = termsIn-holds part (held part) e
-
 held-is : (part : List ℕ) (us : List Term) → termsIn part ≡ some us → held part ≡ us
 unfolding held
 held-is part us e = rw e
@@ -246,35 +242,9 @@ passed n part b h = go n h (held part) (b .enough) (b .whole) refl
           begins = rw (q) (record { whole = rw l k; enough = rw l (omega arith) });
         }
 
--- m terms and then n more
-pub record Parted (m n : ℕ) (part : List ℕ) : Type 0 where
-  pub terms-are : terms (m + n) part ≡ join (terms m part) (terms n (drop (wordCount (terms m part)) part))
-  pub begins : Begins n (drop (wordCount (terms m part)) part)
-
 pub no-terms : (part : List ℕ) → terms 0 part ≡ Nil
 unfolding terms
 no-terms part = refl
-
-pub parted : (m n : ℕ) (part : List ℕ) → Begins (m + n) part → Parted m n part
-parted zero n part b =
-    let z : wordCount (terms 0 part) ≡ 0 = rw (no-terms part) refl in
-    let e : 0 + n ≡ n = omega arith in
-    record { terms-are = rw (no-terms part, e) refl; begins = rw (no-terms part) (rw e at b) }
-parted (suc m) n part b =
-    let p = passed (suc m + n) part b (omega arith) in
-    let q = passed (suc m) part (begins-less (suc m) (omega arith) b) (omega arith) in
-    let e : suc m + n - 1 ≡ m + n = omega arith in
-    let f : suc m - 1 ≡ m = omega arith in
-    let behind = drop (wordCount (front part)) part in
-    let r = parted m n behind (rw e at (p .begins)) in
-    let x : terms (suc m) part ≡ Cons (front part) (terms m behind) = rw f at (q .terms-are) in
-    let w : drop (wordCount (terms (suc m) part)) part ≡ drop (wordCount (terms m behind)) behind =
-    let k : wordCount (Cons (front part) (terms m behind)) ≡ wordCount (front part) + wordCount (terms m behind) = omega arith in
-    rw (x, drop-drop (wordCount (terms m behind)) (wordCount (front part)) part, k) refl in
-    record {
-      terms-are = rw e at (p .terms-are) ∙ ap (Cons (front part)) (r .terms-are) ∙ rw (w, x) refl;
-      begins = rw w (r .begins);
-    }
 
 pub front-term : (part : List ℕ) → Begins 1 part → terms 1 part ≡ Cons (front part) Nil
 front-term part b = passed 1 part b (omega arith) .terms-are ∙ ap (Cons (front part)) (no-terms (drop (wordCount (front part)) part))

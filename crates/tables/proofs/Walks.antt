@@ -5,15 +5,15 @@ use Prim.Native.Nat.{ℕ, zero, suc, _+_, _-_, _*_, _/_, _%_, _≤_, _<_}
 use native.Mathlib.Nat.{zero-add}
 use native.Mathlib.Omega.{arith}
 use mathlib.Core.Bool.{Bool, true, false}
-use mathlib.Core.List.{List, [], _∷_}
+use mathlib.Core.List.{List}
 use lib.ListN.{length, drop, getD, length-drop}
 use lib.Seq.{drop-drop}
 use Rattle.documents.specs.Terms.{Sort, many, Tm, Var, Abst, Nil, Cons, Term, Terms, len}
 use Rattle.documents.specs.Tables.{nodes}
 use Rattle.documents.proofs.Lists.{never}
 use Rattle.tables.specs.declared.walk.Walked.the-variants.{Words, Stopped}
-use Rattle.tables.specs.Parts.{held, firstTerms, terms, front, Begins, wordCount, walked}
-use Rattle.tables.proofs.Parts.{join, only, headed, Shape, Step, step, begins-inside, begins-less, passed, parted, front-term, words-fit}
+use Rattle.tables.specs.Parts.{terms, front, Begins, wordCount, walked}
+use Rattle.tables.proofs.Parts.{join, only, headed, Shape, Step, step, begins-inside, begins-less, passed, front-term, words-fit}
 
 -- ---- A variable
 
@@ -90,52 +90,6 @@ nodes-step {k} {s} {c} {ts} {us} p =
     let h : nodes us ≡ nodes (join (p .arguments) (p .later)) = ap (λ (x : Terms). nodes x) (p .inside) in
     omega arith
 
--- ---- A node's arguments, and the terms after it
-
-len-terms : (n : ℕ) (part : List ℕ) → Begins n part → len (terms n part) ≡ n
-unfolding terms
-len-terms n part b = go n (held part) (b .enough)
-  where
-    go : (n : ℕ) (us : List Term) → n ≤ length us → len (firstTerms n us) ≡ n
-    go zero us h = refl
-    go (suc n) [] h = absurd (omega arith)
-    go (suc n) (u ∷ us) h = ap suc (go n us (omega arith))
-
-join-same : (ts us xs ys : Terms) → len ts ≡ len us → join ts xs ≡ join us ys → (ts ≡ us) × (xs ≡ ys)
-join-same Nil Nil xs ys l e = (refl, e)
-join-same Nil (Cons u us) xs ys l e = absurd (omega arith)
-join-same (Cons t ts) Nil xs ys l e = absurd (omega arith)
-join-same (Cons t ts) (Cons u us) xs ys l e =
-    let x : t ≡ u = cc in
-    let y : join ts xs ≡ join us ys = cc in
-    let r = join-same ts us xs ys (omega arith) y in
-    (ap₂ Cons x (r .0), r .1)
-
-pub record AtNode (t : List ℕ) (a n : ℕ) : Type 0 where
-  pub terms-are : terms n (drop a t)
-      ≡ Cons (headed (getD t a 0 / 65536) (getD t a 0 % 65536) (terms (getD t (a + 1) 0) (drop (a + 2) t)))
-      (terms (n - 1) (drop (a + 2 + wordCount (terms (getD t (a + 1) 0) (drop (a + 2) t))) t))
-  pub shape : Shape (getD t a 0 / 65536) (getD t a 0 % 65536) (terms (getD t (a + 1) 0) (drop (a + 2) t))
-  pub arguments : Begins (getD t (a + 1) 0) (drop (a + 2) t)
-  pub begins : Begins (n - 1) (drop (a + 2 + wordCount (terms (getD t (a + 1) 0) (drop (a + 2) t))) t)
-
-pub at-node : (t : List ℕ) (a n : ℕ) → Begins n (drop a t) → 0 < n → AtNode t a n
-at-node t a n b h =
-    let p = step t a n b h in
-    let c = getD t (a + 1) 0 in
-    let e : n - 1 + c ≡ c + (n - 1) = omega arith in
-    let i = rw e at (begins-inside t a n b h) in
-    let q = parted c (n - 1) (drop (a + 2) t) i in
-    let k = begins-less c (omega arith) i in
-    let w = drop-drop (wordCount (terms c (drop (a + 2) t))) (a + 2) t in
-    let j = join-same (p .arguments) (terms c (drop (a + 2) t)) (p .later) _ (p .count ∙ sym (len-terms c (drop (a + 2) t) k)) (sym (p .inside) ∙ ap (λ (m : ℕ). terms m (drop (a + 2) t)) e ∙ q .terms-are) in
-    record {
-      terms-are = p .node ∙ ap₂ (λ (x y : Terms). Cons (headed (getD t a 0 / 65536) (getD t a 0 % 65536) x) y) (j .0) (j .1 ∙ ap (terms (n - 1)) w);
-      shape = rw (j .0) at (p .shape);
-      arguments = k;
-      begins = rw w at (q .begins);
-    }
-
 -- ---- A walk: where it stands, and how many terms it owes
 
 -- n terms begin at place a of the table, and so have words there
@@ -211,14 +165,6 @@ module _ {n : ℕ} {part : List ℕ} {owed at : ℕ} (w : Walking n part owed at
   walking-abstraction v =
       let p = at-abstraction part at owed (w .walk .begins) h v in
       walking-past (suc (nodes (front (drop (at + 2) part)))) _ (ap (λ (x : Terms). nodes x) (p .terms-are)) (omega arith) (p .begins)
-
-  -- past a node and its arguments
-  pub walking-arguments : Walking n part (owed - 1) (at + 2 + wordCount (terms (getD part (at + 1) 0) (drop (at + 2) part)))
-  walking-arguments =
-      let p = at-node part at owed (w .walk .begins) h in
-      let e = nodes-headed (getD part at 0 / 65536) (getD part at 0 % 65536) _ (p .shape) in
-      let f = ap (λ (x : Terms). nodes x) (p .terms-are) in
-      walking-past (1 + nodes (terms (getD part (at + 1) 0) (drop (at + 2) part))) _ (rw e at f) (omega arith) (p .begins)
 
   -- past a term
   pub walking-term : Walking n part (owed - 1) (at + wordCount (front (drop at part)))

@@ -6,12 +6,10 @@ use mathlib.Core.List.{List}
 use lib.Dec.{eqb, leb}
 use Rattle.documents.specs.Limits.{argumentLimit, kindStep}
 use Rattle.documents.specs.Terms.{Term, Terms}
-use Rattle.documents.specs.Tables.{Kind, variable, symbol, metavariable, abstraction, other, kindOf, termIn, nodes, depth}
+use Rattle.documents.specs.Tables.{Kind, variable, symbol, metavariable, abstraction, other, kindOf, termIn, nodes}
 use Rattle.documents.specs.Numbers.{Answer, answered, refused}
-use Rattle.tables.specs.declared.walk.Walked.{Walked}
 use Rattle.tables.specs.declared.accept.Sized.{Sized}
 use Rattle.tables.specs.declared.accept.Sized.the-variants.{Nodes, Refused}
-use Rattle.tables.specs.Parts.{walked}
 
 -- the node count, or the refusal that is due
 abbrev pub sized : Answer Term → Sized
@@ -36,7 +34,3 @@ fitsKind other s c = false
 
 unfoldable pub inLayout : ℕ → ℕ → Bool
 inLayout word count = fitsKind (kindOf (word / kindStep)) (word % kindStep) count
-
--- a walk of terms that stops below so many levels
-abbrev pub within : ℕ → Terms → Walked
-within levels ts = walked (leb (depth ts) levels) ts

@@ -5,12 +5,14 @@ use crate::node::MOST_ARGUMENTS;
 use crate::node::MOST_DEPTH;
 use crate::node::PLAN_NODES;
 use crate::side::plain;
-use crate::walk::Walked;
 use documents::Refusal;
 ghost use mathlib.Core.Path.{_≡_};
+ghost use lib.Dec.{leb};
+ghost use Rattle.documents.specs.Limits.{depthLimit};
+ghost use Rattle.documents.specs.Tables.{depth};
 ghost use Rattle.documents.specs.Numbers.{tableIn, subjectIn};
-ghost use Rattle.tables.specs.Parts.{terms, Begins};
-ghost use Rattle.tables.specs.Answers.{sized, isGood, inLayout, within};
+ghost use Rattle.tables.specs.Parts.{front, Begins};
+ghost use Rattle.tables.specs.Answers.{sized, isGood, inLayout};
 
 pub enum Sized {
     Nodes(usize),
@@ -27,9 +29,9 @@ pub fn accept(table: &[u32], limit: u32) -> Sized
     if !good(table) {
         return Sized::Refused(Refusal::TableNotGood);
     }
-    let Walked::Words(_) = pass_within(table, 1, MOST_DEPTH) else {
+    if !is_shallow(table) {
         return Sized::Refused(Refusal::TooDeep);
-    };
+    }
     Sized::Nodes(table.len() / 2)
 }
 
@@ -86,27 +88,36 @@ fn in_layout(word: u32, count: u32) -> bool
     count == 1
 }
 
-// Passes over so many terms, none of them deeper than the levels, with a call a level: how many words they have.
-fn pass_within(part: &[u32], count: u32, levels: u32) -> Walked
-    requires { ⌜ Begins count (now part) ⌝ }
-    ensures { λ r. ⌜ r ≡ within levels (terms count (now (part .entry))) ⌝ }
+// Whether no node of a good table is deeper than 64. For each level above the place of the walk it keeps how many terms are owed there, in an
+// array, so that a table however deep takes no more stack.
+fn is_shallow(table: &[u32]) -> bool
+    requires { ⌜ Begins 1 (now table) ⌝ }
+    ensures { λ r. ⌜ r ≡ leb (depth (front (now (table .entry)))) depthLimit ⌝ }
 {
-    let mut left = count;
+    let mut above = [0u32; 64];
+    let mut level: usize = 0;
+    let mut owed: u32 = 1;
     let mut at: usize = 0;
-    while 0 < left {
-        if levels == 0 {
-            return Walked::Stopped;
+    loop {
+        if owed == 0 {
+            if level == 0 {
+                return true;
+            }
+            level -= 1;
+            owed = above[level];
+            continue;
         }
-        let arguments = part[at + 1];
+        let arguments = table[at + 1];
+        owed -= 1;
         at += 2;
-        left -= 1;
         if arguments == 0 {
             continue;
         }
-        let Walked::Words(words) = pass_within(&part[at..], arguments, levels - 1) else {
-            return Walked::Stopped;
-        };
-        at += words;
+        if level == MOST_DEPTH - 1 {
+            return false;
+        }
+        above[level] = owed;
+        level += 1;
+        owed = arguments;
     }
-    Walked::Words(at)
 }

@@ -16,4 +16,4 @@ pub const MOST_ARGUMENTS: u32 = 8;
 pub const PLAN_NODES: u32 = 4096;
 
 // Depth of a table, its root at depth 1.
-pub const MOST_DEPTH: u32 = 64;
+pub const MOST_DEPTH: usize = 64;
