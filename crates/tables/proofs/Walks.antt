@@ -124,20 +124,22 @@ unfolding terms
 ended {n = zero} w h = refl
 ended {n = suc n} w h = absurd (omega arith)
 
--- ---- A walk that counts the words of the n terms that it goes over
+-- ---- A walk that counts the words of the subterm that a part begins with
 
-pub record Walking (n : ℕ) (part : List ℕ) (owed at : ℕ) : Type 0 where
+pub record Walking (part : List ℕ) (owed at : ℕ) : Type 0 where
   pub walk : Walk part at owed
-  -- with the words of the terms still owed the n terms are whole
-  pub ends : at + wordCount (terms owed (drop at part)) ≡ wordCount (terms n part)
-  pub room : wordCount (terms n part) ≤ length part
+  -- with the words of the terms still owed the subterm is whole
+  pub ends : at + wordCount (terms owed (drop at part)) ≡ wordCount (front part)
+  pub room : wordCount (front part) ≤ length part
 
-pub walking-from : {n : ℕ} {part : List ℕ} → Begins n part → Walking n part n 0
-walking-from {n} {part} b = record { walk = walk-from b; ends = zero-add (wordCount (terms n part)); room = words-fit n part b .1 }
+pub walking-from : {part : List ℕ} → Begins 1 part → Walking part 1 0
+walking-from {part} b =
+    let e : nodes (terms 1 part) ≡ nodes (front part) + 0 = ap (λ (x : Terms). nodes x) (front-term part b) in
+    record { walk = walk-from b; ends = omega arith; room = let f = words-fit 1 part b in omega arith }
 
-module _ {n : ℕ} {part : List ℕ} {owed at : ℕ} (w : Walking n part owed at) (h : 0 < owed) where
+module _ {part : List ℕ} {owed at : ℕ} (w : Walking part owed at) (h : 0 < owed) where
   -- past a node's words
-  pub walking-on : Walking n part (owed - 1 + getD part (at + 1) 0) (at + 2)
+  pub walking-on : Walking part (owed - 1 + getD part (at + 1) 0) (at + 2)
   walking-on = record {
     walk = walk-on (w .walk) h;
     ends =
@@ -149,43 +151,37 @@ module _ {n : ℕ} {part : List ℕ} {owed at : ℕ} (w : Walking n part owed at
 
   -- past whole terms, of m nodes
   walking-past : (m next : ℕ) → nodes (terms owed (drop at part)) ≡ m + nodes (terms (owed - 1) (drop next part)) → next ≡ at + 2 * m → Begins (owed - 1) (drop next part)
-      → Walking n part (owed - 1) next
+      → Walking part (owed - 1) next
   walking-past m next e k b = record {
     walk = walk-at b (let f = w .ends in let r = w .room in omega arith);
     ends = let f = w .ends in omega arith;
     room = w .room;
   }
 
-  pub walking-variable : getD part at 0 < 65536 → Walking n part (owed - 1) (at + 2)
+  pub walking-variable : getD part at 0 < 65536 → Walking part (owed - 1) (at + 2)
   walking-variable v =
       let p = at-variable part at owed (w .walk .begins) h v in
       walking-past 1 (at + 2) (ap (λ (x : Terms). nodes x) (p .terms-are)) refl (p .begins)
 
-  pub walking-abstraction : getD part at 0 ≡ 196608 → Walking n part (owed - 1) (at + 2 + wordCount (front (drop (at + 2) part)))
+  pub walking-abstraction : getD part at 0 ≡ 196608 → Walking part (owed - 1) (at + 2 + wordCount (front (drop (at + 2) part)))
   walking-abstraction v =
       let p = at-abstraction part at owed (w .walk .begins) h v in
       walking-past (suc (nodes (front (drop (at + 2) part)))) _ (ap (λ (x : Terms). nodes x) (p .terms-are)) (omega arith) (p .begins)
 
   -- past a term
-  pub walking-term : Walking n part (owed - 1) (at + wordCount (front (drop at part)))
+  pub walking-term : Walking part (owed - 1) (at + wordCount (front (drop at part)))
   walking-term =
       let p = passed owed (drop at part) (w .walk .begins) h in
       let d = drop-drop (wordCount (front (drop at part))) at part in
       walking-past (nodes (front (drop at part))) _ (rw d at (ap (λ (x : Terms). nodes x) (p .terms-are))) refl (rw d at (p .begins))
 
-pub walking-ended : {n : ℕ} {part : List ℕ} {owed at : ℕ} → Walking n part owed at → owed ≤ 0 → at ≡ wordCount (terms n part)
-walking-ended {n} {part} {owed} {at} w h =
+pub walking-ended : {part : List ℕ} {owed at : ℕ} → Walking part owed at → owed ≤ 0 → at ≡ wordCount (front part)
+walking-ended w h =
     let f = rw (ended (w .walk) h) at (w .ends) in
     omega arith
 
--- the walk of one term
-pub front-words : {part : List ℕ} → Begins 1 part → wordCount (terms 1 part) ≡ wordCount (front part)
-front-words {part} b =
-    let e : nodes (terms 1 part) ≡ nodes (front part) + 0 = ap (λ (x : Terms). nodes x) (front-term part b) in
-    omega arith
-
 -- behind the root's words its arguments are owed
-pub walking-inside : {part : List ℕ} → Begins 1 part → Walking 1 part (getD part 1 0) 2
+pub walking-inside : {part : List ℕ} → Begins 1 part → Walking part (getD part 1 0) 2
 walking-inside {part} b =
     let e : 1 - 1 + getD part (0 + 1) 0 ≡ getD part 1 0 = omega arith in
     rw e at (walking-on (walking-from b) (omega arith))

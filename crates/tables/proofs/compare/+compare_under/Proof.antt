@@ -12,7 +12,7 @@ use Rattle.documents.specs.Instructions.{pairsIn}
 use Rattle.documents.specs.Machine.{equalUnder}
 use Rattle.tables.specs.Parts.{terms, front, wordCount}
 use Rattle.tables.proofs.Parts.{from-drop}
-use Rattle.tables.proofs.Walks.{Walking, walking-from, walking-on, walking-variable, walking-abstraction, walking-ended, front-words, ended, at-abstraction, walked-words, walked-stopped, is-words, is-stopped}
+use Rattle.tables.proofs.Walks.{Walking, walking-from, walking-on, walking-variable, walking-abstraction, walking-ended, ended, at-abstraction, walked-words, walked-stopped, is-words, is-stopped}
 use Rattle.tables.proofs.Renamed.{same-variable, other-variable, other-word, other-count, same-applied, same-body, other-body, compare-front}
 use Rattle.tables.proofs.compare.+compare_under.{statement}
 use Rattle.tables.proofs.compare.+compare_under.Tie.{close}
@@ -38,7 +38,7 @@ compare-under-below t =
 
 abbrev compare-under-Inv-loop : compare-under-lts.InvT-loop
 compare-under-Inv-loop old new shift pairs under owed₀ at₀ owed at =
-    Walking 1 old owed at × Walking 1 new owed at
+    Walking old owed at × Walking new owed at
     × (equalUnder (pairsIn pairs) shift under (terms owed (drop at old)) (terms owed (drop at new)) ≡ equalUnder (pairsIn pairs) shift under (front old) (front new))
 
 abbrev compare-under-μ-loop : compare-under-lts.MeasureT-loop
@@ -100,4 +100,4 @@ pub +compare-under-spec : {M : Type 1} → statement M
     (λ c. search needs)
     (λ c. search needs)
     (λ c. let s = c .before .before .before .before .before .before .before .before .before .before .before .before .before .args in let l = c .before .before .before .before .before .before .before .before .before .loop in let ps = pairsIn (s .pairs .now) in let f : getD (s .new .now) (l .at + 1) 0 ≡ getD (s .old .now) (l .at + 1) 0 = omega arith in (walking-on (l .inv .0) (omega arith), rw f at (walking-on (l .inv .1) (omega arith)), sym (rw f at (same-applied ps (s .shift) (l .inv .0 .walk) (l .inv .1 .walk) (omega arith) (s .under) (c .before .before .before .before .before .if1 .left) (c .before .before .before .if4 .left) (omega arith) f)) ∙ l .inv .2))
-    (λ c. let s = c .before .before .before .before .before .args in let l = c .before .loop in let ps = pairsIn (s .pairs .now) in is-words _ (front (s .old .now)) (l .at) (sym (rw (ended (l .inv .0 .walk) (omega arith), ended (l .inv .1 .walk) (omega arith)) at (l .inv .2))) (walking-ended (l .inv .0) (omega arith) ∙ front-words (c .before .before .before .before .before .pre .1 .0)))
+    (λ c. let s = c .before .before .before .before .before .args in let l = c .before .loop in let ps = pairsIn (s .pairs .now) in is-words _ (front (s .old .now)) (l .at) (sym (rw (ended (l .inv .0 .walk) (omega arith), ended (l .inv .1 .walk) (omega arith)) at (l .inv .2))) (walking-ended (l .inv .0) (omega arith)))

@@ -12,7 +12,7 @@ use Rattle.documents.specs.Lists.{every}
 use Rattle.tables.specs.Forbidden.{unmarked}
 use Rattle.tables.specs.Parts.{terms, front, wordCount}
 use Rattle.tables.proofs.Parts.{from-drop}
-use Rattle.tables.proofs.Walks.{Walking, walking-from, walking-on, walking-variable, walking-abstraction, walking-ended, front-words, ended, at-abstraction, walked-words, walked-stopped, is-words, is-stopped}
+use Rattle.tables.proofs.Walks.{Walking, walking-from, walking-on, walking-variable, walking-abstraction, walking-ended, ended, at-abstraction, walked-words, walked-stopped, is-words, is-stopped}
 use Rattle.tables.proofs.Free.{look-front, look-unmarked, look-marked, look-past, look-inside, look-applied}
 use Rattle.tables.proofs.forbid.+look.{statement}
 use Rattle.tables.proofs.forbid.+look.Tie.{close}
@@ -32,7 +32,7 @@ look-below t = and 2 look-kinds.ps (falls 2 look-kinds.ps _<_ μ-look t) look.Pr
 
 abbrev look-Inv-loop : look-lts.InvT-loop
 look-Inv-loop part marks under owed₀ at₀ owed at =
-    Walking 1 part owed at × (every (unmarked marks) (fv under (terms owed (drop at part))) ≡ every (unmarked marks) (fv under (front part)))
+    Walking part owed at × (every (unmarked marks) (fv under (terms owed (drop at part))) ≡ every (unmarked marks) (fv under (front part)))
 
 abbrev look-μ-loop : look-lts.MeasureT-loop
 look-μ-loop part marks under owed₀ at₀ owed at = length part - at
@@ -82,4 +82,4 @@ pub +look-spec : {M : Type 1} → statement M
     (λ c. search needs)
     (λ c. search needs)
     (λ c. let s = c .before .before .before .before .before .before .before .args in let l = c .before .before .before .before .before .loop in (walking-on (l .inv .0) (omega arith), sym (look-applied (l .inv .0 .walk) (omega arith) (s .marks .now) (s .under) (omega arith) (c .before .if3 .left)) ∙ l .inv .1))
-    (λ c. let s = c .before .before .before .args in let l = c .before .loop in is-words _ (front (s .part .now)) (l .at) (sym (rw (ended (l .inv .0 .walk) (omega arith)) at (l .inv .1))) (walking-ended (l .inv .0) (omega arith) ∙ front-words (c .before .before .before .pre .1 .0)))
+    (λ c. let s = c .before .before .before .args in let l = c .before .loop in is-words _ (front (s .part .now)) (l .at) (sym (rw (ended (l .inv .0 .walk) (omega arith)) at (l .inv .1))) (walking-ended (l .inv .0) (omega arith)))

@@ -1,6 +1,5 @@
 -- `pass::skip` meets its contract. The words passed and those of the arguments still owed are the subterm's; each call passes one argument.
 -- What falls from call to call is the part's length.
-use mathlib.Core.Path.{_∙_}
 use Prim.Native.Nat.{ℕ, _<_, _≤_}
 use native.Mathlib.Omega.{arith}
 use lib.ListN.{length-drop, length}
@@ -8,7 +7,7 @@ use borrow.Author.Needs.{needs}
 use borrow.Fn.Kinds.{In}
 use borrow.Fn.PlainCycle.{Measures, is, falls, and}
 use Rattle.tables.proofs.Parts.{begins-less, from-drop}
-use Rattle.tables.proofs.Walks.{Walking, walking-from, walking-inside, walking-term, walking-ended, front-words}
+use Rattle.tables.proofs.Walks.{Walking, walking-from, walking-inside, walking-term, walking-ended}
 use Rattle.tables.proofs.pass.+skip.{statement}
 use Rattle.tables.proofs.pass.+skip.Tie.{close}
 use Rattle.tables.proofs.pass.skip.Reads as skip
@@ -25,7 +24,7 @@ abbrev skip-below : ℕ → In 1 skip-kinds.ps
 skip-below t = and 1 skip-kinds.ps (falls 1 skip-kinds.ps _<_ μ-skip t) skip.Pre
 
 abbrev skip-Inv-loop : skip-lts.InvT-loop
-skip-Inv-loop part left₀ at₀ left at = Walking 1 part left at × (2 ≤ at)
+skip-Inv-loop part left₀ at₀ left at = Walking part left at × (2 ≤ at)
 
 abbrev skip-μ-loop : skip-lts.MeasureT-loop
 skip-μ-loop part left₀ at₀ left at = left
@@ -51,4 +50,4 @@ pub +skip-spec : {M : Type 1} → statement M
     (λ c. search needs)
     (λ c. search needs)
     (λ c. let r = rw from-drop at (c .skip .ensures) in (rw r (walking-term (c .before .before .before .loop .inv .0) (omega arith)), omega arith))
-    (λ c. walking-ended (c .before .loop .inv .0) (omega arith) ∙ front-words (c .before .before .before .before .pre .1))
+    (λ c. walking-ended (c .before .loop .inv .0) (omega arith))
