@@ -15,9 +15,10 @@ use Rattle.documents.specs.Terms.{Var, Nil, Cons, Term, Terms}
 use Rattle.documents.specs.Rules.{fv, freevars, closed}
 use Rattle.documents.proofs.Lists.{on, T-of, of-and, and-true, every-append}
 use Rattle.tables.specs.Parts.{terms, front, Begins, wordCount}
-use Rattle.tables.specs.Forbidden.{clear, Small, unmarked, marked, markAll, markedWith}
-use Rattle.tables.proofs.Parts.{join, Step, step, front-term}
-use Rattle.tables.proofs.Walks.{at-variable, at-abstraction, Walk}
+use Rattle.tables.specs.declared.walk.Walked.the-variants.{Words, Stopped}
+use Rattle.tables.specs.Forbidden.{clear, looked, Small, unmarked, marked, markAll, markedWith}
+use Rattle.tables.proofs.Parts.{join, Step, step, front-term, from, from-drop}
+use Rattle.tables.proofs.Walks.{at-variable, at-abstraction, Walk, ended, Walking, walking-from, walking-on, walking-variable, walking-abstraction, walking-ended, walked-words, walked-stopped, is-words, is-stopped}
 
 -- ---- A walk of the variables
 
@@ -41,7 +42,7 @@ every-variable f false y = twice (f y)
     twice true = refl
     twice false = refl
 
-pub look-front : {part : List ℕ} (f : ℕ → Bool) (j : ℕ) → Begins 1 part → every f (fv j (terms 1 part)) ≡ every f (fv j (front part))
+look-front : {part : List ℕ} (f : ℕ → Bool) (j : ℕ) → Begins 1 part → every f (fv j (terms 1 part)) ≡ every f (fv j (front part))
 look-front {part} f j b = rw (front-term part b, append-nil (fv j (front part))) refl
 
 module _ {t : List ℕ} {a n : ℕ} (w : Walk t a n) (h : 0 < n) (marks : List ℕ) (j : ℕ) where
@@ -56,11 +57,11 @@ module _ {t : List ℕ} {a n : ℕ} (w : Walk t a n) (h : 0 < n) (marks : List �
         every-variable (unmarked marks) (ltb (getD t a 0) j) (getD t a 0 - j),
       ) refl
 
-  pub look-unmarked : getD t a 0 < 65536 → marked marks j (getD t a 0) ≡ false
+  look-unmarked : getD t a 0 < 65536 → marked marks j (getD t a 0) ≡ false
       → every (unmarked marks) (fv j (terms n (drop a t))) ≡ every (unmarked marks) (fv j (terms (n - 1) (drop (a + 2) t)))
   look-unmarked v e = look-variable v ∙ ap (λ (q : Bool). not q && every (unmarked marks) (fv j (terms (n - 1) (drop (a + 2) t)))) e
 
-  pub look-marked : getD t a 0 < 65536 → marked marks j (getD t a 0) ≡ true → every (unmarked marks) (fv j (terms n (drop a t))) ≡ false
+  look-marked : getD t a 0 < 65536 → marked marks j (getD t a 0) ≡ true → every (unmarked marks) (fv j (terms n (drop a t))) ≡ false
   look-marked v e = look-variable v ∙ ap (λ (q : Bool). not q && every (unmarked marks) (fv j (terms (n - 1) (drop (a + 2) t)))) e
 
   look-abstraction : getD t a 0 ≡ 196608
@@ -72,17 +73,56 @@ module _ {t : List ℕ} {a n : ℕ} (w : Walk t a n) (h : 0 < n) (marks : List �
       rw (p .terms-are, add-one j) (every-append (unmarked marks) (fv (suc j) (front (drop (a + 2) t))) _)
 
   -- nothing is marked in the body
-  pub look-past : getD t a 0 ≡ 196608 → every (unmarked marks) (fv (j + 1) (front (drop (a + 2) t))) ≡ true
+  look-past : getD t a 0 ≡ 196608 → every (unmarked marks) (fv (j + 1) (front (drop (a + 2) t))) ≡ true
       → every (unmarked marks) (fv j (terms n (drop a t)))
       ≡ every (unmarked marks) (fv j (terms (n - 1) (drop (a + 2 + wordCount (front (drop (a + 2) t))) t)))
   look-past v e = rw e at (look-abstraction v)
 
-  pub look-inside : getD t a 0 ≡ 196608 → every (unmarked marks) (fv (j + 1) (front (drop (a + 2) t))) ≡ false → every (unmarked marks) (fv j (terms n (drop a t))) ≡ false
+  look-inside : getD t a 0 ≡ 196608 → every (unmarked marks) (fv (j + 1) (front (drop (a + 2) t))) ≡ false → every (unmarked marks) (fv j (terms n (drop a t))) ≡ false
   look-inside v e = rw e at (look-abstraction v)
 
-  pub look-applied : 65536 ≤ getD t a 0 → (getD t a 0 ≡ 196608 → ⊥)
+  look-applied : 65536 ≤ getD t a 0 → (getD t a 0 ≡ 196608 → ⊥)
       → every (unmarked marks) (fv j (terms n (drop a t))) ≡ every (unmarked marks) (fv j (terms (n - 1 + getD t (a + 1) 0) (drop (a + 2) t)))
   look-applied lo ne = ap (every (unmarked marks)) (fv-applied j (step t a n (w .begins) h) refl refl lo ne)
+
+-- ---- A walk that looks through the subterm that a part begins with
+
+-- Whether a marked variable is among the terms still owed is what was asked of the subterm.
+pub record Looking (marks : List ℕ) (j : ℕ) (part : List ℕ) (owed at : ℕ) : Type 0 where
+  pub walk : Walking part owed at
+  pub same : every (unmarked marks) (fv j (terms owed (drop at part))) ≡ every (unmarked marks) (fv j (front part))
+
+pub looking-from : {marks : List ℕ} {j : ℕ} {part : List ℕ} → Begins 1 part → Looking marks j part 1 0
+looking-from {marks} {j} b = record { walk = walking-from b; same = look-front (unmarked marks) j b }
+
+pub looking-ended : {marks : List ℕ} {j : ℕ} {part : List ℕ} {owed at : ℕ} → Looking marks j part owed at → owed ≤ 0 → Words at ≡ looked marks j (front part)
+looking-ended {part = part} {at = at} l h = is-words _ (front part) at (sym (rw (ended (l .walk .walk) h) at (l .same))) (walking-ended (l .walk) h)
+
+module _ {marks : List ℕ} {j : ℕ} {part : List ℕ} {owed at : ℕ} (l : Looking marks j part owed at) (h : 0 < owed) where
+  pub looking-variable : getD part at 0 < 65536 → marked marks j (getD part at 0) ≡ false → Looking marks j part (owed - 1) (at + 2)
+  looking-variable v e = record { walk = walking-variable (l .walk) h v; same = sym (look-unmarked (l .walk .walk) h marks j v e) ∙ l .same }
+
+  pub variable-marked : getD part at 0 < 65536 → marked marks j (getD part at 0) ≡ true → Stopped ≡ looked marks j (front part)
+  variable-marked v e = is-stopped _ (front part) (sym (l .same) ∙ look-marked (l .walk .walk) h marks j v e)
+
+  pub looking-applied : 65536 ≤ getD part at 0 → ((getD part at 0 ≡ 196608) → ⊥) → Looking marks j part (owed - 1 + getD part (at + 1) 0) (at + 2)
+  looking-applied v n = record { walk = walking-on (l .walk) h; same = sym (look-applied (l .walk .walk) h marks j v n) ∙ l .same }
+
+  -- the body of an abstraction is a part of its own
+  pub body : getD part at 0 ≡ 196608 → Begins 1 (from (at + 2) part)
+  body v = rw (from-drop (at + 2) part) (at-abstraction part at owed (l .walk .walk .begins) h v .body)
+
+  pub looking-body : (n : ℕ) → getD part at 0 ≡ 196608 → Words n ≡ looked marks (j + 1) (front (from (at + 2) part)) → Looking marks j part (owed - 1) (at + (2 + n))
+  looking-body n v e =
+      let inner = front (drop (at + 2) part) in
+      let d = walked-words (every (unmarked marks) (fv (j + 1) inner)) inner n (rw (from-drop (at + 2) part) at e) in
+      let k : at + (2 + n) ≡ at + 2 + wordCount inner = let q = d .1 in omega arith in
+      rw k (record { walk = walking-abstraction (l .walk) h v; same = sym (look-past (l .walk .walk) h marks j v (d .0)) ∙ l .same })
+
+  pub body-marked : getD part at 0 ≡ 196608 → Stopped ≡ looked marks (j + 1) (front (from (at + 2) part)) → Stopped ≡ looked marks j (front part)
+  body-marked v e =
+      is-stopped _ (front part)
+      (sym (l .same) ∙ look-inside (l .walk .walk) h marks j v (walked-stopped _ (front (drop (at + 2) part)) (rw (from-drop (at + 2) part) at e)))
 
 -- ---- Marks
 

@@ -17,9 +17,10 @@ use Rattle.documents.proofs.Lists.{never, on, and-assoc, and-true}
 use Rattle.documents.proofs.Substitution.{rename-ext, rename-id}
 use Rattle.documents.proofs.Paper.{equal-is}
 use Rattle.tables.specs.Parts.{terms, front, Begins, wordCount}
-use Rattle.tables.specs.Compared.{sameVariable}
-use Rattle.tables.proofs.Parts.{join, headed, Shape, Step, step, two, front-term}
-use Rattle.tables.proofs.Walks.{at-variable, at-abstraction, Walk}
+use Rattle.tables.specs.declared.walk.Walked.the-variants.{Words, Stopped}
+use Rattle.tables.specs.Compared.{sameVariable, compared}
+use Rattle.tables.proofs.Parts.{join, headed, Shape, Step, step, two, front-term, from, from-drop}
+use Rattle.tables.proofs.Walks.{at-variable, at-abstraction, Walk, ended, Walking, walking-from, walking-on, walking-variable, walking-abstraction, walking-ended, walked-words, walked-stopped, is-words, is-stopped}
 
 and-false : (q : Bool) → q && false ≡ false
 and-false true = refl
@@ -129,7 +130,7 @@ module _ (ps : List (ℕ × ℕ)) (D : ℕ) where
     unfolding sameVariable
     same-is-variable e = ltb-true (getD u a 0) 65536 (both (ltb (getD u a 0) 65536) _ e .0)
 
-    pub same-variable : getD t a 0 < 65536 → sameVariable ps D j (getD t a 0) (getD u a 0) ≡ true
+    same-variable : getD t a 0 < 65536 → sameVariable ps D j (getD t a 0) (getD u a 0) ≡ true
         → (getD u a 0 < 65536)
         × (equalUnder ps D j (terms n (drop a t)) (terms n (drop a u))
         ≡ equalUnder ps D j (terms (n - 1) (drop (a + 2) t)) (terms (n - 1) (drop (a + 2) u)))
@@ -147,7 +148,7 @@ module _ (ps : List (ℕ × ℕ)) (D : ℕ) where
         other (suc (suc zero)) s ts z = refl
         other (suc (suc (suc k))) s ts z = refl
 
-    pub other-variable : getD t a 0 < 65536 → sameVariable ps D j (getD t a 0) (getD u a 0) ≡ false → equalUnder ps D j (terms n (drop a t)) (terms n (drop a u)) ≡ false
+    other-variable : getD t a 0 < 65536 → sameVariable ps D j (getD t a 0) (getD u a 0) ≡ false → equalUnder ps D j (terms n (drop a t)) (terms n (drop a u)) ≡ false
     other-variable x e = go (ltb (getD u a 0) 65536) refl
       where
         go : (q : Bool) → ltb (getD u a 0) 65536 ≡ q → equalUnder ps D j (terms n (drop a t)) (terms n (drop a u)) ≡ false
@@ -167,13 +168,13 @@ module _ (ps : List (ℕ × ℕ)) (D : ℕ) where
               (λ k s l. d (omega arith) (sym (p .count) ∙ l ∙ q .count)),
         ) refl
 
-    pub other-word : 65536 ≤ getD t a 0 → ((getD u a 0 ≡ getD t a 0) → ⊥) → equalUnder ps D j (terms n (drop a t)) (terms n (drop a u)) ≡ false
+    other-word : 65536 ≤ getD t a 0 → ((getD u a 0 ≡ getD t a 0) → ⊥) → equalUnder ps D j (terms n (drop a t)) (terms n (drop a u)) ≡ false
     other-word x d = other-node x (λ e l. d (sym e))
 
-    pub other-count : 65536 ≤ getD t a 0 → ((getD u (a + 1) 0 ≡ getD t (a + 1) 0) → ⊥) → equalUnder ps D j (terms n (drop a t)) (terms n (drop a u)) ≡ false
+    other-count : 65536 ≤ getD t a 0 → ((getD u (a + 1) 0 ≡ getD t (a + 1) 0) → ⊥) → equalUnder ps D j (terms n (drop a t)) (terms n (drop a u)) ≡ false
     other-count x d = other-node x (λ e l. d (sym l))
 
-    pub same-applied : 65536 ≤ getD t a 0 → ((getD t a 0 ≡ 196608) → ⊥) → getD u a 0 ≡ getD t a 0 → getD u (a + 1) 0 ≡ getD t (a + 1) 0
+    same-applied : 65536 ≤ getD t a 0 → ((getD t a 0 ≡ 196608) → ⊥) → getD u a 0 ≡ getD t a 0 → getD u (a + 1) 0 ≡ getD t (a + 1) 0
         → equalUnder ps D j (terms n (drop a t)) (terms n (drop a u))
         ≡ equalUnder ps D j (terms (n - 1 + getD t (a + 1) 0) (drop (a + 2) t)) (terms (n - 1 + getD u (a + 1) 0) (drop (a + 2) u))
     same-applied x y e f =
@@ -194,18 +195,88 @@ module _ (ps : List (ℕ × ℕ)) (D : ℕ) where
     compare-abstraction x y = rw (at-abstraction t a n (w .begins) h x .terms-are, at-abstraction u a n (v .begins) h y .terms-are, add-one j) refl
 
     -- the bodies agree, so they are equally long
-    pub same-body : getD t a 0 ≡ 196608 → getD u a 0 ≡ 196608 → equalUnder ps D (j + 1) (front (drop (a + 2) t)) (front (drop (a + 2) u)) ≡ true
+    same-body : getD t a 0 ≡ 196608 → getD u a 0 ≡ 196608 → equalUnder ps D (j + 1) (front (drop (a + 2) t)) (front (drop (a + 2) u)) ≡ true
         → (wordCount (front (drop (a + 2) u)) ≡ wordCount (front (drop (a + 2) t)))
         × (equalUnder ps D j (terms n (drop a t)) (terms n (drop a u))
         ≡ equalUnder ps D j (terms (n - 1) (drop (a + 2 + wordCount (front (drop (a + 2) t))) t)) (terms (n - 1) (drop (a + 2 + wordCount (front (drop (a + 2) u))) u)))
     same-body x y e = (let k = equal-nodes (j + 1) (front (drop (a + 2) t)) (front (drop (a + 2) u)) e in omega arith, rw e at (compare-abstraction x y))
 
-    pub other-body : getD t a 0 ≡ 196608 → getD u a 0 ≡ 196608 → equalUnder ps D (j + 1) (front (drop (a + 2) t)) (front (drop (a + 2) u)) ≡ false
+    other-body : getD t a 0 ≡ 196608 → getD u a 0 ≡ 196608 → equalUnder ps D (j + 1) (front (drop (a + 2) t)) (front (drop (a + 2) u)) ≡ false
         → equalUnder ps D j (terms n (drop a t)) (terms n (drop a u)) ≡ false
     other-body x y e = rw e at (compare-abstraction x y)
 
-  pub compare-front : {t u : List ℕ} (j : ℕ) → Begins 1 t → Begins 1 u → equalUnder ps D j (terms 1 t) (terms 1 u) ≡ equalUnder ps D j (front t) (front u)
+  compare-front : {t u : List ℕ} (j : ℕ) → Begins 1 t → Begins 1 u → equalUnder ps D j (terms 1 t) (terms 1 u) ≡ equalUnder ps D j (front t) (front u)
   compare-front {t} {u} j b d = rw (front-term t b, front-term u d) (and-true (equalUnder ps D j (front t) (front u)))
+
+-- ---- A walk that compares the subterms that two parts begin with
+
+-- It stands at the same place of both and owes as many terms; whether those agree is what was asked of the subterms.
+pub record Comparing (pairs : List ℕ) (D j : ℕ) (old new : List ℕ) (owed at : ℕ) : Type 0 where
+  pub walk : Walking old owed at
+  pub other : Walking new owed at
+  pub same : equalUnder (pairsIn pairs) D j (terms owed (drop at old)) (terms owed (drop at new)) ≡ equalUnder (pairsIn pairs) D j (front old) (front new)
+
+pub comparing-from : {pairs : List ℕ} {D j : ℕ} {old new : List ℕ} → Begins 1 old → Begins 1 new → Comparing pairs D j old new 1 0
+comparing-from {pairs} {D} {j} b d = record { walk = walking-from b; other = walking-from d; same = compare-front (pairsIn pairs) D j b d }
+
+pub comparing-ended : {pairs : List ℕ} {D j : ℕ} {old new : List ℕ} {owed at : ℕ} → Comparing pairs D j old new owed at → owed ≤ 0
+    → Words at ≡ compared pairs D j (front old) (front new)
+comparing-ended {old = old} {at = at} c h =
+    is-words _ (front old) at (sym (rw (ended (c .walk .walk) h, ended (c .other .walk) h) at (c .same))) (walking-ended (c .walk) h)
+
+module _ {pairs : List ℕ} {D j : ℕ} {old new : List ℕ} {owed at : ℕ} (c : Comparing pairs D j old new owed at) (h : 0 < owed) where
+  -- a difference at the node
+  differs : equalUnder (pairsIn pairs) D j (terms owed (drop at old)) (terms owed (drop at new)) ≡ false → Stopped ≡ compared pairs D j (front old) (front new)
+  differs e = is-stopped _ (front old) (sym (c .same) ∙ e)
+
+  pub comparing-variable : getD old at 0 < 65536 → sameVariable (pairsIn pairs) D j (getD old at 0) (getD new at 0) ≡ true
+      → Comparing pairs D j old new (owed - 1) (at + 2)
+  comparing-variable v e =
+      let p = same-variable (pairsIn pairs) D (c .walk .walk) (c .other .walk) h j v e in
+      record { walk = walking-variable (c .walk) h v; other = walking-variable (c .other) h (p .0); same = sym (p .1) ∙ c .same }
+
+  pub variable-differs : getD old at 0 < 65536 → sameVariable (pairsIn pairs) D j (getD old at 0) (getD new at 0) ≡ false
+      → Stopped ≡ compared pairs D j (front old) (front new)
+  variable-differs v e = differs (other-variable (pairsIn pairs) D (c .walk .walk) (c .other .walk) h j v e)
+
+  pub word-differs : 65536 ≤ getD old at 0 → ((getD new at 0 ≡ getD old at 0) → ⊥) → Stopped ≡ compared pairs D j (front old) (front new)
+  word-differs v e = differs (other-word (pairsIn pairs) D (c .walk .walk) (c .other .walk) h j v e)
+
+  pub count-differs : 65536 ≤ getD old at 0 → ((getD new (at + 1) 0 ≡ getD old (at + 1) 0) → ⊥) → Stopped ≡ compared pairs D j (front old) (front new)
+  count-differs v e = differs (other-count (pairsIn pairs) D (c .walk .walk) (c .other .walk) h j v e)
+
+  pub comparing-applied : 65536 ≤ getD old at 0 → ((getD old at 0 ≡ 196608) → ⊥) → getD new at 0 ≡ getD old at 0 → getD new (at + 1) 0 ≡ getD old (at + 1) 0
+      → Comparing pairs D j old new (owed - 1 + getD old (at + 1) 0) (at + 2)
+  comparing-applied v n e f = record {
+    walk = walking-on (c .walk) h;
+    other = rw f at (walking-on (c .other) h);
+    same = sym (rw f at (same-applied (pairsIn pairs) D (c .walk .walk) (c .other .walk) h j v n e f)) ∙ c .same;
+  }
+
+  -- an abstraction in both: the bodies are parts of their own
+  pub bodies : getD old at 0 ≡ 196608 → getD new at 0 ≡ 196608 → Begins 1 (from (at + 2) old) × Begins 1 (from (at + 2) new)
+  bodies v w =
+      (rw (from-drop (at + 2) old) (at-abstraction old at owed (c .walk .walk .begins) h v .body), rw (from-drop (at + 2) new) (at-abstraction new at owed (c .other .walk .begins) h w .body))
+
+  pub comparing-body : (n : ℕ) → getD old at 0 ≡ 196608 → getD new at 0 ≡ 196608 → Words n ≡ compared pairs D (j + 1) (front (from (at + 2) old)) (front (from (at + 2) new))
+      → Comparing pairs D j old new (owed - 1) (at + (2 + n))
+  comparing-body n v w e =
+      let body = front (drop (at + 2) old) in
+      let d = walked-words (equalUnder (pairsIn pairs) D (j + 1) body (front (drop (at + 2) new))) body n (rw (from-drop (at + 2) old, from-drop (at + 2) new) at e) in
+      let g = same-body (pairsIn pairs) D (c .walk .walk) (c .other .walk) h j v w (d .0) in
+      let k : at + (2 + n) ≡ at + 2 + wordCount body = let q = d .1 in omega arith in
+      rw k (record {
+        walk = walking-abstraction (c .walk) h v;
+        other = rw (g .0) at (walking-abstraction (c .other) h w);
+        same = sym (rw (g .0) at (g .1)) ∙ c .same;
+      })
+
+  pub body-differs : getD old at 0 ≡ 196608 → getD new at 0 ≡ 196608 → Stopped ≡ compared pairs D (j + 1) (front (from (at + 2) old)) (front (from (at + 2) new))
+      → Stopped ≡ compared pairs D j (front old) (front new)
+  body-differs v w e =
+      differs
+      (other-body (pairsIn pairs) D (c .walk .walk) (c .other .walk) h j v w
+      (walked-stopped _ (front (drop (at + 2) old)) (rw (from-drop (at + 2) old, from-drop (at + 2) new) at e)))
 
 -- ---- A free variable's new index: the pairs from place i on
 
