@@ -94,7 +94,7 @@ fn is_shallow(table: &[u32]) -> bool
     requires { ⌜ Begins 1 (now table) ⌝ }
     ensures { λ r. ⌜ r ≡ leb (depth (front (now (table .entry)))) depthLimit ⌝ }
 {
-    let mut above = [0u32; 64];
+    let mut above = [0u32; MOST_DEPTH];
     let mut level: usize = 0;
     let mut owed: u32 = 1;
     let mut at: usize = 0;

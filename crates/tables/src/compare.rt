@@ -11,7 +11,7 @@ ghost use Rattle.tables.specs.Parts.{front, Begins};
 ghost use Rattle.tables.specs.Compared.{agrees, compared, sameVariable};
 
 // Code words hold d + 64 for d.
-pub const D_SHIFT: usize = 64;
+pub const D_SHIFT: u32 = 64;
 
 // EQI: the old subterm, renamed, is the new one. The pairs are a first index and a second one each; `shift` is d + 64.
 pub fn same(old: &[u32], new: &[u32], shift: u32, pairs: &[u32]) -> bool
@@ -29,7 +29,7 @@ pub fn identical(old: &[u32], new: &[u32]) -> bool
     requires { ⌜ Begins 1 (now old) × Begins 1 (now new) ⌝ }
     ensures { λ r. ⌜ r ≡ equal (front (now (old .entry))) (front (now (new .entry))) ⌝ }
 {
-    same(old, new, 64, &old[..0])
+    same(old, new, D_SHIFT, &old[..0])
 }
 
 // The same below so many abstractions: how many words the two have, if they agree. As long as they do, a node stands at the same place of both.
@@ -111,8 +111,8 @@ fn renamed(index: usize, shift: u32, pairs: &[u32]) -> usize
         i += 2;
     }
     let moved = index + shift as usize;
-    if moved < D_SHIFT {
+    if moved < D_SHIFT as usize {
         return 0;
     }
-    moved - D_SHIFT
+    moved - D_SHIFT as usize
 }

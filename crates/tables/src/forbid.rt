@@ -35,7 +35,7 @@ pub fn is_closed(part: &[u32]) -> bool
     requires { ⌜ Begins 1 (now part) ⌝ }
     ensures { λ r. ⌜ r ≡ closed (front (now (part .entry))) ⌝ }
 {
-    let marks = [1u8; 65];
+    let marks = [1u8; MARKS];
     let Walked::Words(_) = look(part, &marks, 0) else {
         return false;
     };
@@ -43,11 +43,11 @@ pub fn is_closed(part: &[u32]) -> bool
 }
 
 // The marks of a CHECK's list.
-fn marks_of(indices: &[u32]) -> [u8; 65]
+fn marks_of(indices: &[u32]) -> [u8; MARKS]
     requires { ⌜ Small (now indices) ⌝ }
     ensures { λ r. ⌜ r ≡ markedWith (now (indices .entry)) ⌝ }
 {
-    let mut marks = [0u8; 65];
+    let mut marks = [0u8; MARKS];
     let mut i: usize = 0;
     while i < indices.len() {
         let index = indices[i] as usize;
@@ -59,7 +59,7 @@ fn marks_of(indices: &[u32]) -> [u8; 65]
 
 // Looks through the subterm that a part begins with, under so many abstractions: how many words it has, if no free variable of it is marked.
 // Nodes are passed by a running count of the terms still owed; only an abstraction takes a call.
-fn look(part: &[u32], marks: &[u8; 65], under: usize) -> Walked
+fn look(part: &[u32], marks: &[u8; MARKS], under: usize) -> Walked
     requires { ⌜ Begins 1 (now part) × (under + length (now part) < 2 ^ 64) ⌝ }
     ensures { λ r. ⌜ r ≡ looked (now (marks .entry)) under (front (now (part .entry))) ⌝ }
 {
@@ -90,7 +90,7 @@ fn look(part: &[u32], marks: &[u8; 65], under: usize) -> Walked
 }
 
 // Whether a variable, met under so many abstractions, is free there and marked.
-fn is_marked(marks: &[u8; 65], index: usize, under: usize) -> bool
+fn is_marked(marks: &[u8; MARKS], index: usize, under: usize) -> bool
     ensures { λ r. ⌜ r ≡ marked (now (marks .entry)) under index ⌝ }
 {
     if index < under {

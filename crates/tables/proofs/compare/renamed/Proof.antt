@@ -37,5 +37,8 @@ renamed-spec =
     (λ c. search needs)
     (λ c. let s = c .before .before .before .before .args in let l = c .before .before .before .loop in (sym (pair-passed (s .pairs .now) (l .i) (s .shift) (s .index) (omega arith) (c .if1 .left)) ∙ l .inv .0, omega arith))
     (λ c. search needs)
+    (λ c. search needs)
     (λ c. let s = c .before .before .before .args in let l = c .before .before .loop in (let e : 0 ≡ s .index + s .shift - 64 = omega arith in e ∙ sym (no-pair (s .pairs .now) (l .i) (s .shift) (s .index) (omega arith)) ∙ l .inv .0))
+    (λ c. search needs)
+    (λ c. search needs)
     (λ c. let s = c .before .before .before .args in let l = c .before .before .loop in sym (no-pair (s .pairs .now) (l .i) (s .shift) (s .index) (omega arith)) ∙ l .inv .0))
