@@ -1,17 +1,17 @@
 -- Words of bytes, at a place and in the code's arithmetic.
-use mathlib.Core.Path.{_≡_, refl}
+use mathlib.Core.Path.{_≡_, refl, sym, _∙_}
 use mathlib.Core.Bool.{cond}
 use mathlib.Core.List.{List, [], _∷_}
-use Prim.Native.Nat.{ℕ, suc, _+_, _*_, _/_, _%_, _≤_, _<_}
-use native.Mathlib.Nat.{add-zero, add-assoc}
-use native.Mathlib.Numerals.{add-one}
+use Prim.Native.Nat.{ℕ, zero, suc, _+_, _-_, _*_, _/_, _%_, _≤_, _<_}
+use native.Mathlib.Nat.{add-zero, zero-add, sub-zero, add-assoc}
+use native.Mathlib.Numerals.{add-one, add-two, add-three}
 use native.Mathlib.Omega.{arith}
 use lib.Dec.{leb}
 use lib.ListN.{length, getD, take, drop, set, length-drop, length-take}
-use lib.Seq.{sets, drop-cons, getD-drop, getD-take}
+use lib.Seq.{sets, drop-cons, getD-drop}
 use borrow.Author.Tests.{le-leb, lt-leb}
 use Rattle.documents.specs.Calls.{bigEndian, wordsOf}
-use Rattle.reader.specs.Reader.{wordAt, countIn, wordsFrom, turnedWord}
+use Rattle.reader.specs.Reader.{wordAt, countIn, wordsFrom, filled, turnedWord}
 use Rattle.reader.specs.declared.Count.the-variants as count
 
 -- ---- A word
@@ -38,11 +38,6 @@ wordAt-drop bs at k = simp (getD-drop, add-assoc)
 wordAt-drop-here : (bs : List ℕ) (at : ℕ) → wordAt (drop at bs) 0 ≡ wordAt bs at
 wordAt-drop-here bs at = rw (wordAt-drop bs at 0, add-zero)
 
-wordAt-take : (n : ℕ) (bs : List ℕ) (k : ℕ) → k + 4 ≤ n → wordAt (take n bs) k ≡ wordAt bs k
-unfolding wordAt
-wordAt-take n bs k h =
-    rw (getD-take n bs k 0 (omega arith), getD-take n bs (k + 1) 0 (omega arith), getD-take n bs (k + 2) 0 (omega arith), getD-take n bs (k + 3) 0 (omega arith))
-
 -- ---- A count
 
 pub countIn-short : (limit room : ℕ) (bs : List ℕ) (at : ℕ) → length bs < at + 4 → countIn limit room (drop at bs) ≡ count.Missing
@@ -65,20 +60,16 @@ module _ (limit room : ℕ) (bs : List ℕ) (at n : ℕ) (there : at + 4 ≤ len
 
 -- ---- Words
 
-wordsOf-next : (bs : List ℕ) (at : ℕ) → at + 4 ≤ length bs → wordsOf (drop at bs) ≡ wordAt bs at ∷ wordsOf (drop (at + 4) bs)
+wordsFrom-next : (bs : List ℕ) (at n : ℕ) → at + 4 ≤ length bs → wordsFrom bs at (suc n) ≡ wordAt bs at ∷ wordsFrom bs (at + 4) n
 unfolding wordAt
-wordsOf-next bs at h =
-    rw (drop-cons bs at 0 (omega arith), ← (add-one at), drop-cons bs (at + 1) 0 (omega arith), next 1, drop-cons bs (at + 2) 0 (omega arith), next 2, drop-cons bs (at + 3) 0 (omega arith), next 3)
+wordsFrom-next bs at n h =
+    rw (drop-cons bs at 0 (omega arith), ← (add-one at), drop-cons bs (at + 1) 0 (omega arith), next 1, drop-cons bs (at + 2) 0 (omega arith), next 2, drop-cons bs (at + 3) 0 (omega arith), next 3, four)
   where
+    four : 4 * suc n ≡ suc (suc (suc (suc (4 * n))))
+    four = omega arith
+
     next : (k : ℕ) → suc (at + k) ≡ at + (k + 1)
     next k = omega arith
-
-wordsOf-none : (bs : List ℕ) → length bs < 4 → wordsOf bs ≡ []
-wordsOf-none [] h = refl
-wordsOf-none (a ∷ []) h = refl
-wordsOf-none (a ∷ b ∷ []) h = refl
-wordsOf-none (a ∷ b ∷ c ∷ []) h = refl
-wordsOf-none (a ∷ b ∷ c ∷ d ∷ bs) h = absurd (omega arith)
 
 length-wordsOf : (bs : List ℕ) → length (wordsOf bs) ≡ length bs / 4
 length-wordsOf [] = refl
@@ -90,17 +81,47 @@ length-wordsOf (a ∷ b ∷ c ∷ d ∷ bs) = omega (arith, length-wordsOf bs)
 pub length-wordsFrom : (bs : List ℕ) (at n : ℕ) → at + 4 * n ≤ length bs → length (wordsFrom bs at n) ≡ n
 length-wordsFrom bs at n h = rw (length-wordsOf, length-take, length-drop) (omega arith)
 
--- ---- Words written one by one
+-- ---- Words written in parts
 
--- what is left to write from word i on
-abbrev pub left : List ℕ → ℕ → ℕ → List ℕ → ℕ → List ℕ
-left bs at n table i = sets table i (wordsOf (drop (4 * i) (take (4 * n) (drop at bs))))
+-- m words and then n more
+sets-more : (bs : List ℕ) (at : ℕ) (table : List ℕ) (i m n : ℕ) → at + 4 * (m + n) ≤ length bs
+    → sets table i (wordsFrom bs at (m + n)) ≡ sets (sets table i (wordsFrom bs at m)) (i + m) (wordsFrom bs (at + 4 * m) n)
+sets-more bs at table i zero n h = rw (zero-add n, add-zero i, add-zero at)
+sets-more bs at table i (suc m) n h =
+    let e : suc m + n ≡ suc (m + n) = omega arith in
+    let f : suc i + m ≡ i + suc m = omega arith in
+    let g : at + 4 + 4 * m ≡ at + 4 * suc m = omega arith in
+    rw (e, wordsFrom-next bs at (m + n) (omega arith), wordsFrom-next bs at m (omega arith), sets-more bs (at + 4) (set table i (wordAt bs at)) (suc i) m n (omega arith), f, g)
+
+pub filled-whole : (bs : List ℕ) (at n : ℕ) (table : List ℕ) → filled bs at n table 0 ≡ sets table 0 (wordsFrom bs at n)
+filled-whole bs at n table = rw (add-zero at, sub-zero n)
 
 module _ (bs : List ℕ) (at n : ℕ) (table : List ℕ) (i : ℕ) (fits : at + 4 * n ≤ length bs) where
-  pub left-next : i < n → left bs at n table i ≡ left bs at n (set table i (wordAt bs (at + 4 * i))) (i + 1)
-  left-next h =
-      let e : 4 * i + 4 ≡ 4 * (i + 1) = omega arith in
-      rw (wordsOf-next (take (4 * n) (drop at bs)) (4 * i) (rw (length-take, length-drop) (omega arith)), wordAt-take (4 * n) (drop at bs) (4 * i) (omega arith), wordAt-drop bs at (4 * i), e, add-one i)
+  -- m words, and the rest from word j on
+  filled-more : (m j : ℕ) → i + m ≡ j → j ≤ n → filled bs at n table i ≡ filled bs at n (sets table i (wordsFrom bs (at + 4 * i) m)) j
+  filled-more m j e h =
+      let f : n - i ≡ m + (n - j) = omega arith in
+      let g : at + 4 * i + 4 * m ≡ at + 4 * j = omega arith in
+      rw (f, sets-more bs (at + 4 * i) table i m (n - j) (omega arith), e, g)
 
-  pub left-none : n ≤ i → left bs at n table i ≡ table
-  left-none h = rw (wordsOf-none (drop (4 * i) (take (4 * n) (drop at bs))) (simp (length-drop, length-take) (omega arith)))
+  pub filled-one : i < n → filled bs at n table i ≡ filled bs at n (set table i (wordAt bs (at + 4 * i))) (i + 1)
+  filled-one h = filled-more 1 (i + 1) refl (omega arith) ∙ rw (wordsFrom-next bs (at + 4 * i) 0 (omega arith))
+
+  pub filled-none : n ≤ i → filled bs at n table i ≡ table
+  filled-none h = let e : n - i ≡ 0 = omega arith in rw e
+
+module _ (bs : List ℕ) (at n : ℕ) (table : List ℕ) (i : ℕ) (fits : at + 4 * n ≤ length bs) where
+  -- a block, by its halves
+  pub filled-block : i + 8 ≤ n → filled bs at n table i ≡ filled bs at n (sets (sets table i (wordsFrom bs (at + 4 * i) 4)) (i + 4) (wordsFrom bs (at + 4 * (i + 4)) 4)) (i + 8)
+  filled-block h =
+      filled-more bs at n table i fits 4 (i + 4) refl (omega arith) ∙ filled-more bs at n (sets table i (wordsFrom bs (at + 4 * i) 4)) (i + 4) fits 4 (i + 8) (omega arith) (omega arith)
+
+  -- the first i words, and then the rest
+  pub filled-first : i ≤ n → filled bs at n (sets table 0 (wordsFrom bs at i)) i ≡ sets table 0 (wordsFrom bs at n)
+  filled-first h = sym (rw (add-zero at, sub-zero n) at (filled-more bs at n table 0 fits i i (zero-add i) h))
+
+-- four words by four stores, in the code's form
+pub sets-four : (bs : List ℕ) (at : ℕ) (table : List ℕ) (i : ℕ) → at + 16 ≤ length bs
+    → set (set (set (set table i (wordAt bs at)) (i + 1) (wordAt bs (at + 4))) (i + 2) (wordAt bs (at + 8))) (i + 3) (wordAt bs (at + 12)) ≡ sets table i (wordsFrom bs at 4)
+sets-four bs at table i h =
+    rw (wordsFrom-next bs at 3 (omega arith), wordsFrom-next bs (at + 4) 2 (omega arith), add-assoc at 4 4, wordsFrom-next bs (at + 8) 1 (omega arith), add-assoc at 8 4, wordsFrom-next bs (at + 12) 0 (omega arith), add-one i, add-two i, add-three i)

@@ -1,10 +1,11 @@
 -- What the reader's answers stand for (document 01, 'Bytes and the program').
-use Prim.Native.Nat.{ℕ, _+_, _*_, _/_, _%_}
+use Prim.Native.Nat.{ℕ, _+_, _-_, _*_, _/_, _%_}
 use mathlib.Core.Bool.{cond}
 use mathlib.Core.Option.{Option, none, some}
 use mathlib.Core.List.{List}
 use lib.Dec.{leb}
 use lib.ListN.{length, getD, take, drop}
+use lib.Seq.{sets}
 use Rattle.documents.specs.Numbers.{numberOf}
 use Rattle.documents.specs.Calls.{bigEndian, wordsOf, File, file, ReadAnswer}
 use Rattle.reader.specs.declared.Answer.{Answer}
@@ -39,6 +40,10 @@ countIn limit room bs =
 -- n words from a place on
 abbrev pub wordsFrom : List ℕ → ℕ → ℕ → List ℕ
 wordsFrom bs at n = wordsOf (take (4 * n) (drop at bs))
+
+-- a table with those of n words from a place on that come after the first i, each where it belongs
+abbrev pub filled : List ℕ → ℕ → ℕ → List ℕ → ℕ → List ℕ
+filled bs at n table i = sets table i (wordsFrom bs (at + 4 * i) (n - i))
 
 -- a word's four bytes in the other order
 abbrev pub turnedWord : ℕ → ℕ

@@ -1,41 +1,18 @@
--- `reader::put_words` writes the words from a place on. The invariant: writing what is left, from word i on, into the table as it is gives what
--- writing all into the first table gives; one turn writes the first of the words that are left.
-use mathlib.Core.Path.{_≡_, sym, _∙_}
-use Prim.Native.Nat.{_-_, _≤_}
-use lib.ListN.{length, length-set}
-use Rattle.reader.proofs.Words.{left, left-next, left-none}
+-- `reader::put_words` writes the words from a place on: the first ones, and then the others in blocks, which is all of them (`filled-first`).
+use Prim.Native.Nat.{_%_}
+use native.Mathlib.Omega.{arith}
+use Rattle.reader.proofs.Words.{filled-first}
 use borrow.Author.Needs.{needs}
 use Rattle.reader.proofs.put_words.Statement.{statement}
 use Rattle.reader.proofs.put_words.Tie as tie
 
-abbrev Inv-loop : tie.InvT-loop
-Inv-loop file at count table₀ words i₀ table i = (left file at count table i ≡ left file at count table₀ 0) × ((i ≤ count) × (length table ≡ length table₀))
-
-abbrev μ-loop : tie.MeasureT-loop
-μ-loop file at count table₀ words i₀ table i = count - i
-
-loop-again : tie.Need-loop-again Inv-loop μ-loop
-loop-again c =
-    let l = c .before .before .loop in
-    (rw (c .word-at .ensures) (sym (left-next _ _ _ _ _ (c .before .before .before .before .before .pre .1) (c .before .loop-test .taken)) ∙ l .inv .0), (search needs, simp length-set (l .inv .1 .1)))
-
-returns : tie.Need-returns Inv-loop μ-loop
-returns c = sym (left-none _ _ _ _ _ (c .before .before .before .before .pre .1) (c .loop-test .left)) ∙ c .before .loop .inv .0
+returns : tie.Need-returns
+returns c =
+    let blocks = c .before .before in
+    let first = blocks .before .before .before .before in
+    let start = first .before .before .before .before in
+    let s = start .args in
+    rw (blocks .put-blocks .ensures, first .put-first .ensures) (filled-first (s .file .now) (s .at) (s .count) (s .table .now) (s .count % 8) (start .pre .1) (omega arith))
 
 pub put-words-spec : {M : Type 1} → statement M
-put-words-spec =
-    tie.close
-    (tie.spec
-    Inv-loop
-    μ-loop
-    (λ c. search needs)
-    (λ c. search needs)
-    (λ c. search needs)
-    (λ c κs. search needs)
-    (λ c. search needs)
-    (λ c. search needs)
-    (λ c. search needs)
-    (λ c. search needs)
-    loop-again
-    (λ c. search needs)
-    returns)
+put-words-spec = tie.close (tie.spec (λ c κs. search needs) (λ c κs. search needs) (λ c. search needs) returns)
