@@ -102,7 +102,8 @@ fn count_in(limit: usize, room: usize, file: &[u8], at: usize) -> Count
     Count::Words(count)
 }
 
-// The word at a place. Its bytes are taken together in the machine's order and then turned: one load and one swap, and four at once make a vector.
+// The word at a place. Its bytes are taken together in the machine's order and then turned: one load and one swap, and four at once make a
+// vector.
 fn word_at(file: &[u8], at: usize) -> u32
     requires { ⌜ at + 4 ≤ length (now file) ⌝ }
     ensures { λ r. ⌜ r ≡ wordAt (now (file .entry)) at ⌝ }
@@ -169,7 +170,8 @@ fn put_blocks(file: &[u8], at: usize, first: usize, words: usize, table: &mut [u
     }
 }
 
-// Four words, as one vector. All are loaded before the first is stored: the compiler is not told that the table is no part of the file, so a store between two loads would keep them apart.
+// Four words, as one vector. All are loaded before the first is stored: the compiler is not told that the table is no part of the file, so a
+// store between two loads would keep them apart.
 fn put_four(file: &[u8], at: usize, i: usize, table: &mut [u32])
     requires { ⌜ (i + 4 ≤ length (now table)) × (at + 16 ≤ length (now file)) ⌝ }
     ensures { λ _. ⌜ now (table .exit) ≡ sets (now (table .entry)) i (wordsFrom (now (file .entry)) at 4) ⌝ }
