@@ -11,7 +11,7 @@ use lib.ListN.{length}
 use borrow.Author.Tests.{le-leb, lt-ltb, eq-eqb}
 use Rattle.documents.specs.Limits.{argumentLimit, indexLimit, dShift}
 use Rattle.documents.specs.Lists.{andThen}
-use Rattle.documents.specs.Terms.{Sort, one, many, Tm, Var, Sym, Meta, Abst, Nil, Cons, Terms, len}
+use Rattle.documents.specs.Terms.{Sort, one, many, Tm, Var, Sym, Meta, Abst, Nil, Cons, len}
 use Rattle.documents.specs.Tables.{Fits, depth}
 use Rattle.documents.specs.Instructions.{CELL, ADBMAL, End, _▸_, None, Body, Program, Bodies, bodyCount, keys}
 use Rattle.documents.specs.Translation.{Row, Located, lookup, _⧺_, offset, Built, joined, keyed, rhsMeta, rhs}
@@ -23,6 +23,7 @@ use Rattle.kahrs.proofs.Simple.{depth-term}
 use Rattle.kahrs.proofs.Known.{Known}
 use Rattle.compiled.proofs.Unlisted.{unlisted, unlisted-covers, under-below}
 use Rattle.compiled.proofs.Rows.{slots, RowsGood, Found, absent, present, found}
+use Rattle.compiled.proofs.Length.{count-rhs}
 
 build-⧺ : (es : List Slot) (inside : Bool) (l nest : ℕ) (c d : Program) (hs : List ℕ)
     → build es inside l nest (c ⧺ d) hs ≡ andThen (build es inside l nest c hs) (build es inside l nest d)
@@ -35,10 +36,6 @@ build-⧺ es inside l nest (i ▸ c) d hs =
 bodyCount-keys : (a : Bodies) → bodyCount a ≡ length (keys a)
 bodyCount-keys None = refl
 bodyCount-keys (Body k c a) = ap suc (bodyCount-keys a)
-
-count-rhs : (tab : List Row) (n : ℕ) (ts : Terms) → length (rhs tab n ts) ≡ len ts
-count-rhs tab n Nil = refl
-count-rhs tab n (Cons t ts) = ap suc (count-rhs tab n ts)
 
 -- ---- The code of a right side
 

@@ -1,17 +1,17 @@
 -- A CHECK's list, the indices below n that are not among the arguments: it has at most n indices, all below n, and with the arguments it covers
--- every index below n.
-use mathlib.Core.Path.{_≡_, refl, sym, _∙_}
-use Prim.Native.Nat.{ℕ, zero, suc, _≤_, _<_}
+-- every index below n. With distinct arguments below n it has n indices.
+use mathlib.Core.Path.{_≡_, refl, sym, ap, _∙_}
+use Prim.Native.Nat.{ℕ, zero, suc, _+_, _≤_, _<_}
 use native.Mathlib.Omega.{arith}
 use mathlib.Core.Bool.{Bool, true, false, not, _&&_, _||_, cond}
-use mathlib.Core.List.{List, [], _∷_}
-use lib.Dec.{T, leb, ltb}
+use mathlib.Core.List.{List, [], _∷_, _++_}
+use lib.Dec.{T, eqb, leb, ltb}
 use lib.ListN.{length, length-append}
-use borrow.Author.Tests.{lt-ltb, lt-leb}
+use borrow.Author.Tests.{lt-ltb, lt-leb, eqb-true, eqb-false, ne-eqb}
 use Rattle.documents.specs.Lists.{every, keep, member, upTo}
 use Rattle.documents.specs.Passing.{covers, allBelow}
-use Rattle.documents.proofs.Lists.{T-of, of-and, and-of, case, every-append}
-use Rattle.kahrs.proofs.Places.{Under, unlisted-covered}
+use Rattle.documents.proofs.Lists.{T-of, off, of-and, and-of, case, every-append}
+use Rattle.kahrs.proofs.Places.{Distinct, Under, unlisted-covered}
 
 -- the indices below n that are not among l, rising
 abbrev pub unlisted : ℕ → List ℕ → List ℕ
@@ -57,3 +57,57 @@ unlisted-covers n l = every-upTo (λ i. member (unlisted n l) i || member l i) n
 pub under-below : (n : ℕ) (l : List ℕ) → Under n l → T (allBelow n l)
 under-below n [] h = tt
 under-below n (a ∷ l) h = and-of (ltb a n) (allBelow n l) (T-of (ltb a n) (lt-ltb a n (h .0))) (under-below n l (h .1))
+
+-- ---- How many there are
+
+keep-append : {A : Type 0} (p : A → Bool) (l m : List A) → keep p (l ++ m) ≡ keep p l ++ keep p m
+keep-append p [] m = refl
+keep-append p (a ∷ l) m = rw (keep-append p l m) (go (p a))
+  where
+    go : (q : Bool) → cond q (a ∷ (keep p l ++ keep p m)) (keep p l ++ keep p m) ≡ cond q (a ∷ keep p l) (keep p l) ++ keep p m
+    go true = refl
+    go false = refl
+
+-- the numbers below n for which the test holds
+abbrev tally : (ℕ → Bool) → ℕ → ℕ
+tally p n = length (keep p (upTo n))
+
+tally-next : (p : ℕ → Bool) (n : ℕ) → tally p (suc n) ≡ tally p n + length (cond (p n) (n ∷ []) [])
+tally-next p n = rw (keep-append p (upTo n) (n ∷ [])) (length-append (keep p (upTo n)) (keep p (n ∷ [])))
+
+tally-all : (n : ℕ) → tally (λ i. true) n ≡ n
+tally-all zero = refl
+tally-all (suc n) = let h = tally-all n in let e = tally-next (λ i. true) n in omega arith
+
+-- one number more that is listed: it makes no difference below it ..
+tally-below : (m : ℕ → Bool) (a n : ℕ) → n ≤ a → tally (λ i. not (eqb a i || m i)) n ≡ tally (λ i. not (m i)) n
+tally-below m a zero h = refl
+tally-below m a (suc n) h =
+    let r = tally-below m a n (omega arith) in
+    rw (tally-next (λ i. not (eqb a i || m i)) n, tally-next (λ i. not (m i)) n, ne-eqb a n (λ e. omega arith), r)
+
+-- .. and one above it, if it was not listed yet
+tally-less : (m : ℕ → Bool) (a n : ℕ) → m a ≡ false → a < n → tally (λ i. not (eqb a i || m i)) n + 1 ≡ tally (λ i. not (m i)) n
+tally-less m a zero e h = absurd (omega arith)
+tally-less m a (suc n) e h =
+    rw (tally-next (λ i. not (eqb a i || m i)) n, tally-next (λ i. not (m i)) n) (go (eqb a n) refl (λ k. tally-less m a n e k))
+  where
+    go : (q : Bool) → eqb a n ≡ q → (a < n → tally (λ i. not (eqb a i || m i)) n + 1 ≡ tally (λ i. not (m i)) n)
+        → tally (λ i. not (eqb a i || m i)) n + length (cond (not (q || m n)) (n ∷ []) []) + 1 ≡ tally (λ i. not (m i)) n + length (cond (not (m n)) (n ∷ []) [])
+    go true q r =
+        let i = eqb-true a n q in
+        let j : m n ≡ false = ap m (sym i) ∙ e in
+        let k = tally-below m a n (omega arith) in
+        rw j (omega arith)
+    go false q r = let ne = eqb-false a n q in let k = r (omega arith) in omega arith
+
+-- those listed and those not are all, where the list is of distinct numbers
+pub unlisted-others : (n : ℕ) (l : List ℕ) → Distinct l → Under n l → length (unlisted n l) + length l ≡ n
+unlisted-others n [] d u = let h = tally-all n in omega arith
+unlisted-others n (a ∷ l) d u =
+    let h = unlisted-others n l (d .1) (u .1) in
+    let e = tally-less (member l) a n (off (member l a) (d .0)) (u .0) in
+    omega arith
+
+pub distinct-few : (n : ℕ) (l : List ℕ) → Distinct l → Under n l → length l ≤ n
+distinct-few n l d u = let h = unlisted-others n l d u in omega arith

@@ -138,7 +138,7 @@ first-of-join (Cons t ts) us (suc m) [] e = never (cc)
 first-of-join (Cons t ts) us (suc m) (v ∷ vs) e = ap₂ Cons (cc) (first-of-join ts us m vs (cc))
 
 -- the arguments of a node are the first terms behind its words
-arguments-are : {k s c : ℕ} {ts : Terms} (m : ℕ) (part : List ℕ) (p : Step k s c ts (terms m part)) → terms c part ≡ p .arguments
+pub arguments-are : {k s c : ℕ} {ts : Terms} (m : ℕ) (part : List ℕ) (p : Step k s c ts (terms m part)) → terms c part ≡ p .arguments
 unfolding terms
 arguments-are m part p = rw (← (p .count)) (first-of-join (p .arguments) (p .later) m (held part) (p .inside))
 

@@ -12,6 +12,9 @@ pub const ABSTRACTION: u32 = 196608;
 // Arguments of a symbol or metavariable.
 pub const MOST_ARGUMENTS: u32 = 8;
 
+// Nodes of a side of a rule.
+pub const SIDE_NODES: u32 = 256;
+
 // Nodes of a subject.
 pub const PLAN_NODES: u32 = 4096;
 

@@ -114,7 +114,7 @@ fn variables(part: &[u32], count: u32) -> bool
 }
 
 // A variable is among the first terms of a part, so many, which are variables all.
-fn occurs_among(part: &[u32], count: u32, index: u32) -> bool
+pub fn occurs_among(part: &[u32], count: u32, index: u32) -> bool
     requires { ⌜ Begins count (now part) × (areVars (terms count (now part)) ≡ true) ⌝ }
     ensures { λ r. ⌜ r ≡ member (freevars (terms count (now (part .entry)))) index ⌝ }
 {

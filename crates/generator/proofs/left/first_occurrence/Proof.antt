@@ -1,0 +1,19 @@
+use Rattle.generator.proofs.Matching.{first-check, first-list, first-ends, first-written}
+use borrow.Author.Needs.{needs}
+use Rattle.generator.proofs.left.first_occurrence.Statement.{statement}
+use Rattle.generator.proofs.left.first_occurrence.Tie as tie
+use Rattle.generator.proofs.left.first_occurrence.Reads as reads
+use Rattle.generator.proofs.left.first_occurrence.Lts as lts
+use Rattle.generator.proofs.left.put_others.Reads as put-others-reads
+use Rattle.generator.proofs.put.put_two.Reads as put-two-reads
+
+pub first-occurrence-spec : {M : Type 1} → statement M
+first-occurrence-spec =
+    tie.close
+    (tie.spec
+    (λ c. search needs)
+    (λ c κs. first-check (c .before .before .before .pre .0) (c .before .before .before .pre .1))
+    (λ c κs. (c .before .before .before .before .before .before .before .pre .0 .variables, first-list (c .before .before .before .before .before .before .before .pre .0) (c .before .before .before .before .before .before .before .pre .1) (c .before .before .before .put-two .ensures)))
+    (λ c κs. first-ends (c .before .before .before .before .before .before .before .before .before .before .before .pre .0) (c .before .before .before .before .before .before .before .before .before .before .before .pre .1) (c .before .before .before .before .before .before .before .put-two .ensures) (c .before .before .before .put-others .ensures))
+    (λ c. search needs)
+    (λ c. first-written (c .before .before .before .before .before .before .before .before .before .before .before .before .before .before .pre .0) (c .before .before .before .before .before .before .before .before .before .before .before .before .before .before .pre .1) (c .before .before .before .before .before .before .before .before .before .before .put-two .ensures) (c .before .before .before .before .before .before .put-others .ensures) (c .before .before .put-two2 .ensures)))

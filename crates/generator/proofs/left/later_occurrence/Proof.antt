@@ -1,0 +1,28 @@
+use Rattle.generator.proofs.Matching.{later-eqi, later-pairs, later-ends, later-written}
+use Rattle.tables.proofs.Parts.{from-drop}
+use lib.ListN.{length-drop}
+use native.Mathlib.Omega.{arith}
+use borrow.Author.Needs.{needs}
+use Rattle.generator.proofs.left.later_occurrence.Statement.{statement}
+use Rattle.generator.proofs.left.later_occurrence.Tie as tie
+use Rattle.generator.proofs.left.later_occurrence.Reads as reads
+use Rattle.generator.proofs.left.later_occurrence.Lts as lts
+use Rattle.generator.proofs.left.put_pairs.Reads as put-pairs-reads
+use Rattle.generator.proofs.put.put_four.Reads as put-four-reads
+use Rattle.generator.proofs.put.put_one.Reads as put-one-reads
+
+pub later-occurrence-spec : {M : Type 1} → statement M
+later-occurrence-spec =
+    tie.close
+    (tie.spec
+    (λ c. search needs)
+    (λ c. search needs)
+    (λ c. search needs)
+    (λ c κs. later-eqi (c .before .before .before .before .before .pre .0) (c .before .before .before .before .before .pre .1))
+    (λ c. search needs)
+    (λ c. search needs)
+    (λ c. search needs)
+    (λ c κs. let o = c .before .before .before .before .before .before .before .before .before .before .pre .0 in let r = c .before .before .before .before .before .before .before .before .before .before .args .row .now in let d = length-drop 3 r in let h = o .narrow in let w = o .whole in rw (from-drop 3 r) (o .variables, omega arith, later-pairs o (c .before .before .before .before .before .before .before .before .before .before .pre .1) (c .before .before .before .before .put-four .ensures)))
+    (λ c κs. later-ends (c .before .before .before .before .before .before .before .before .before .before .before .before .before .before .pre .0) (c .before .before .before .before .before .before .before .before .before .before .before .before .before .before .pre .1) (c .before .before .before .before .before .before .before .before .put-four .ensures) (rw (from-drop 3 (c .before .before .before .before .before .before .before .before .before .before .before .before .before .before .args .row .now)) at (c .before .before .before .put-pairs .ensures)))
+    (λ c. search needs)
+    (λ c. later-written (c .before .before .before .before .before .before .before .before .before .before .before .before .before .before .before .before .before .pre .0) (c .before .before .before .before .before .before .before .before .before .before .before .before .before .before .before .before .before .pre .1) (c .before .before .before .before .before .before .before .before .before .before .before .put-four .ensures) (rw (from-drop 3 (c .before .before .before .before .before .before .before .before .before .before .before .before .before .before .before .before .before .args .row .now)) at (c .before .before .before .before .before .before .put-pairs .ensures)) (c .before .before .put-one .ensures)))

@@ -1,0 +1,47 @@
+use Prim.Native.Nat.{_*_}
+use Rattle.generator.proofs.Matching.{here, its-place, left-none, left-first-fits, left-first, left-later-fits, left-later}
+use Rattle.tables.proofs.Parts.{from-drop}
+use native.Mathlib.Omega.{arith}
+use mathlib.Core.Path.{sym, _∙_}
+use borrow.Author.Needs.{needs}
+use Rattle.generator.proofs.left.left_metavariable.Statement.{statement}
+use Rattle.generator.proofs.left.left_metavariable.Tie as tie
+use Rattle.generator.proofs.left.left_metavariable.Reads as reads
+use Rattle.generator.proofs.left.left_metavariable.Lts as lts
+use Rattle.generator.proofs.left.first_occurrence.Reads as first-occurrence-reads
+use Rattle.generator.proofs.left.later_occurrence.Reads as later-occurrence-reads
+use Rattle.symbols.proofs.find.Reads as find-reads
+
+pub left-metavariable-spec : {M : Type 1} → statement M
+left-metavariable-spec =
+    tie.close
+    (tie.spec
+    (λ c. let h = here (c .before .before .before .before .pre .0) (c .before .before .before .before .pre .1) in search needs)
+    (λ c. let h = here (c .before .before .before .before .pre .0) (c .before .before .before .before .pre .1) in search needs)
+    (λ c. let h = here (c .before .before .before .before .pre .0) (c .before .before .before .before .pre .1) in search needs)
+    (λ c. let h = here (c .before .before .before .before .pre .0) (c .before .before .before .before .pre .1) in search needs)
+    (λ c. let h = here (c .before .before .before .before .before .pre .0) (c .before .before .before .before .before .pre .1) in search needs)
+    (λ c. search needs)
+    (λ c κs. search needs)
+    (λ c. search needs)
+    (λ c. search needs)
+    (λ c. left-none (c .before .before .before .before .before .before .before .before .pre .0) (c .before .before .before .before .before .before .before .before .pre .1) (sym (c .enum-told .given .1) ∙ c .before .before .find .ensures))
+    (λ c. search needs)
+    (λ c. let h = here (c .before .before .before .before .before .before .before .before .before .before .pre .0) (c .before .before .before .before .before .before .before .before .before .before .pre .1) in search needs)
+    (λ c. let h = here (c .before .before .before .before .before .before .before .before .before .before .pre .0) (c .before .before .before .before .before .before .before .before .before .before .pre .1) in search needs)
+    (λ c. search needs)
+    (λ c κs. rw (from-drop 2 (c .before .before .before .before .before .before .before .before .before .before .before .before .args .part .now)) (left-first-fits (c .before .before .before .before .before .before .before .before .before .before .before .before .pre .0) (c .before .before .before .before .before .before .before .before .before .before .before .before .pre .1) (sym (c .before .before .before .before .location .given .1) ∙ c .before .before .before .before .before .before .find .ensures) (c .before .before .if1 .taken)))
+    (λ c. search needs)
+    (λ c. left-first (c .before .before .before .before .before .before .before .before .before .before .before .before .before .before .before .pre .0) (c .before .before .before .before .before .before .before .before .before .before .before .before .before .before .before .pre .1) (sym (c .before .before .before .before .before .before .before .location .given .1) ∙ c .before .before .before .before .before .before .before .before .before .find .ensures) (c .before .before .before .before .before .if1 .taken) (rw (from-drop 2 (c .before .before .before .before .before .before .before .before .before .before .before .before .before .before .before .args .part .now)) at (c .before .before .first-occurrence .ensures)))
+    (λ c. let p = its-place (c .before .before .before .before .before .before .before .before .before .before .pre .0) (c .before .before .before .before .before .before .before .before .before .before .pre .1) (sym (c .before .before .location .given .1) ∙ c .before .before .before .before .find .ensures) in search needs)
+    (λ c. let p = its-place (c .before .before .before .before .before .before .before .before .before .before .pre .0) (c .before .before .before .before .before .before .before .before .before .before .pre .1) (sym (c .before .before .location .given .1) ∙ c .before .before .before .before .find .ensures) in search needs)
+    (λ c. let p = its-place (c .before .before .before .before .before .before .before .before .before .before .pre .0) (c .before .before .before .before .before .before .before .before .before .before .pre .1) (sym (c .before .before .location .given .1) ∙ c .before .before .before .before .find .ensures) in search needs)
+    (λ c. let p = its-place (c .before .before .before .before .before .before .before .before .before .before .pre .0) (c .before .before .before .before .before .before .before .before .before .before .pre .1) (sym (c .before .before .location .given .1) ∙ c .before .before .before .before .find .ensures) in search needs)
+    (λ c. let p = its-place (c .before .before .before .before .before .before .before .before .before .before .pre .0) (c .before .before .before .before .before .before .before .before .before .before .pre .1) (sym (c .before .before .location .given .1) ∙ c .before .before .before .before .find .ensures) in search needs)
+    (λ c. search needs)
+    (λ c. let h = here (c .before .before .before .before .before .before .before .before .before .before .before .pre .0) (c .before .before .before .before .before .before .before .before .before .before .before .pre .1) in search needs)
+    (λ c. let h = here (c .before .before .before .before .before .before .before .before .before .before .before .pre .0) (c .before .before .before .before .before .before .before .before .before .before .before .pre .1) in search needs)
+    (λ c. search needs)
+    (λ c κs. let s = c .before .before .before .before .before .before .before .before .before .before .before .before .before .args in rw (from-drop 2 (s .part .now), from-drop (11 * c .before .before .before .before .before .location .given .0 .0) (s .rows .now)) (left-later-fits (c .before .before .before .before .before .before .before .before .before .before .before .before .before .pre .0) (c .before .before .before .before .before .before .before .before .before .before .before .before .before .pre .1) (sym (c .before .before .before .before .before .location .given .1) ∙ c .before .before .before .before .before .before .before .find .ensures) (c .before .before .before .if1 .left)))
+    (λ c. search needs)
+    (λ c. let s = c .before .before .before .before .before .before .before .before .before .before .before .before .before .before .before .before .args in left-later (c .before .before .before .before .before .before .before .before .before .before .before .before .before .before .before .before .pre .0) (c .before .before .before .before .before .before .before .before .before .before .before .before .before .before .before .before .pre .1) (sym (c .before .before .before .before .before .before .before .before .location .given .1) ∙ c .before .before .before .before .before .before .before .before .before .before .find .ensures) (c .before .before .before .before .before .before .if1 .left) (rw (from-drop 2 (s .part .now), from-drop (11 * c .before .before .before .before .before .before .before .before .location .given .0 .0) (s .rows .now)) at (c .before .before .later-occurrence .ensures))))

@@ -1,0 +1,28 @@
+use mathlib.Core.Path.{refl}
+use lib.ListN.{length-set}
+use native.Mathlib.Numerals.{add-one, add-two, add-three}
+use native.Mathlib.Omega.{arith}
+use borrow.Author.Needs.{needs}
+use Rattle.generator.proofs.put.put_four.Statement.{statement}
+use Rattle.generator.proofs.put.put_four.Tie as tie
+use Rattle.generator.proofs.put.put_four.Reads as reads
+use Rattle.generator.proofs.put.put_four.Lts as lts
+
+pub put-four-spec : {M : Type 1} → statement M
+put-four-spec =
+    tie.close
+    (tie.spec
+    (λ c. search needs)
+    (λ c. search needs)
+    (λ c. search needs)
+    (λ c. search needs)
+    (λ c. let r = c .pre .room in simp length-set (omega arith))
+    (λ c. search needs)
+    (λ c. search needs)
+    (λ c. let r = c .pre .room in simp length-set (omega arith))
+    (λ c. search needs)
+    (λ c. search needs)
+    (λ c. let r = c .pre .room in simp length-set (omega arith))
+    (λ c. search needs)
+    (λ c. search needs)
+    (λ c. let place = c .args .at in record { code = rw (add-one place, add-two place, add-three place) refl; place = refl }))

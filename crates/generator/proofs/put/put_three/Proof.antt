@@ -1,0 +1,25 @@
+use mathlib.Core.Path.{refl}
+use lib.ListN.{length-set}
+use native.Mathlib.Numerals.{add-one, add-two}
+use native.Mathlib.Omega.{arith}
+use borrow.Author.Needs.{needs}
+use Rattle.generator.proofs.put.put_three.Statement.{statement}
+use Rattle.generator.proofs.put.put_three.Tie as tie
+use Rattle.generator.proofs.put.put_three.Reads as reads
+use Rattle.generator.proofs.put.put_three.Lts as lts
+
+pub put-three-spec : {M : Type 1} → statement M
+put-three-spec =
+    tie.close
+    (tie.spec
+    (λ c. search needs)
+    (λ c. search needs)
+    (λ c. search needs)
+    (λ c. search needs)
+    (λ c. let r = c .pre .room in simp length-set (omega arith))
+    (λ c. search needs)
+    (λ c. search needs)
+    (λ c. let r = c .pre .room in simp length-set (omega arith))
+    (λ c. search needs)
+    (λ c. search needs)
+    (λ c. let place = c .args .at in record { code = rw (add-one place, add-two place) refl; place = refl }))

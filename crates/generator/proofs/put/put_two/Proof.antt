@@ -1,0 +1,22 @@
+use mathlib.Core.Path.{refl}
+use lib.ListN.{length-set}
+use native.Mathlib.Numerals.{add-one, add-two}
+use native.Mathlib.Omega.{arith}
+use borrow.Author.Needs.{needs}
+use Rattle.generator.proofs.put.put_two.Statement.{statement}
+use Rattle.generator.proofs.put.put_two.Tie as tie
+use Rattle.generator.proofs.put.put_two.Reads as reads
+use Rattle.generator.proofs.put.put_two.Lts as lts
+
+pub put-two-spec : {M : Type 1} → statement M
+put-two-spec =
+    tie.close
+    (tie.spec
+    (λ c. search needs)
+    (λ c. search needs)
+    (λ c. search needs)
+    (λ c. search needs)
+    (λ c. let r = c .pre .room in simp length-set (omega arith))
+    (λ c. search needs)
+    (λ c. search needs)
+    (λ c. record { code = rw (add-one (c .args .at)) refl; place = refl }))

@@ -1,0 +1,177 @@
+// The symbol table (004, section 5): of each left metavariable, from its first occurrence, its name, its argument count, the number of
+// abstractions above it and its argument list. It is one flat array, a row after the other, filled from its end: so the last first occurrence
+// stands first, and a location is a place.
+use tables::node::ABSTRACTION;
+use tables::node::FIRST_METAVARIABLE;
+use tables::side::stands;
+ghost use mathlib.Core.Path.{_≡_};
+ghost use mathlib.Core.Bool.{true};
+ghost use mathlib.Core.List.{_∷_};
+ghost use Prim.Native.Nat.{_+_, _≤_, _<_};
+ghost use lib.ListN.{length, drop};
+ghost use lib.Seq.{sets};
+ghost use Rattle.documents.specs.Rules.{metas, contains, areVars};
+ghost use Rattle.documents.specs.Translation.{lookup, unvar};
+ghost use Rattle.tables.specs.Parts.{front, terms, Begins};
+ghost use Rattle.kahrs.proofs.Simple.{Simple};
+ghost use Rattle.symbols.specs.Rows.{rowsIn, foundIn};
+ghost use Rattle.symbols.specs.Entries.{Table, Enters, Standing};
+
+// Distinct metavariables on the left.
+pub const MOST_METAVARIABLES: usize = 16;
+
+// A row: name, argument count, abstractions above, and room for eight arguments.
+pub const ROW_WORDS: usize = 11;
+
+pub const COUNT: usize = 1;
+
+pub const ABOVE: usize = 2;
+
+pub const ARGUMENTS: usize = 3;
+
+// The words of sixteen rows.
+pub const TABLE_WORDS: usize = 176;
+
+// A metavariable's location.
+pub enum Found {
+    At(usize),
+    Nothing,
+}
+
+pub fn find(rows: &[u32], name: u32, count: u32) -> Found
+    ensures { λ r. ⌜ r ≡ foundIn (lookup name count (rowsIn (now (rows .entry)))) ⌝ }
+{
+    let mut location: usize = 0;
+    let mut at: usize = 0;
+    while ROW_WORDS <= rows.len() - at {
+        if rows[at] == name {
+            if rows[at + COUNT] == count {
+                return Found::At(location);
+            }
+        }
+        location += 1;
+        at += ROW_WORDS;
+    }
+    Found::Nothing
+}
+
+// The words of the subterm that was gone over, the place where the table begins now, and the words of the subterm's code.
+pub enum Entered {
+    Words(usize, usize, usize),
+    Full,
+}
+
+// Words of a variable's code, EQVAR, index, NEXT; and of a symbol's, IS, name, count.
+const PLAIN_WORDS: usize = 3;
+
+// Of an abstraction's code: ISABST.
+const ABSTRACTION_WORDS: usize = 1;
+
+// Of a first occurrence's code, but for the listed indices: CHECK, count, SET, NEXT.
+const FIRST_WORDS: usize = 4;
+
+// Of a later occurrence's code, but for the pairs: EQI, entry, d + 64, count, NEXT.
+const LATER_WORDS: usize = 5;
+
+// Enters the metavariables of a left side's subterm, under so many abstractions, in a table that begins at a place.
+pub fn enter_all(part: &[u32], under: u32, table: &mut [u32], from: usize) -> Entered
+    requires { ⌜ Begins 1 (now part) × Simple under (front (now part)) × (under < 64) × (length (now part) ≤ 512) × Table (now table) from ⌝ }
+    ensures { λ r. ⌜ Enters under (front (now (part .entry))) (rowsIn (drop from (now (table .entry)))) (now (table .exit)) r ⌝ }
+{
+    let mut owed: usize = 1;
+    let mut at: usize = 0;
+    let mut first = from;
+    let mut words: usize = 0;
+    while 0 < owed {
+        let word = part[at];
+        let count = part[at + 1];
+        owed -= 1;
+        at += 2;
+        if word < FIRST_METAVARIABLE {
+            owed += count as usize;
+            words += PLAIN_WORDS;
+            continue;
+        }
+        if word == ABSTRACTION {
+            let Entered::Words(read, place, more) = enter_all(&part[at..], under + 1, table, first)
+            else {
+                return Entered::Full;
+            };
+            at += read;
+            first = place;
+            words += ABSTRACTION_WORDS + more;
+            continue;
+        }
+        let name = word - FIRST_METAVARIABLE;
+        let Found::At(_) = find(&table[first..], name, count) else {
+            if first == 0 {
+                return Entered::Full;
+            }
+            first -= ROW_WORDS;
+            enter(table, first, name, count, under, &part[at..]);
+            at += 2 * count as usize;
+            words += FIRST_WORDS + (under - count) as usize;
+            continue;
+        };
+        at += 2 * count as usize;
+        words += LATER_WORDS + 2 * count as usize;
+    }
+    Entered::Words(at, first, words)
+}
+
+// Writes a row.
+fn enter(table: &mut [u32], at: usize, name: u32, count: u32, under: u32, arguments: &[u32])
+    requires { ⌜ Begins count (now arguments) × (areVars (terms count (now arguments)) ≡ true) × (at + 3 + count ≤ length (now table)) ⌝ }
+    ensures { λ r. ⌜ now (table .exit) ≡ sets (now (table .entry)) at (name ∷ count ∷ under ∷ unvar (terms count (now (arguments .entry)))) ⌝ }
+{
+    table[at] = name;
+    table[at + COUNT] = count;
+    table[at + ABOVE] = under;
+    put_variables(arguments, count, table, at + ARGUMENTS);
+}
+
+// Writes the indices of the first terms of a part, so many, which are variables.
+fn put_variables(part: &[u32], count: u32, out: &mut [u32], at: usize)
+    requires { ⌜ Begins count (now part) × (areVars (terms count (now part)) ≡ true) × (at + count ≤ length (now out)) ⌝ }
+    ensures { λ r. ⌜ now (out .exit) ≡ sets (now (out .entry)) at (unvar (terms count (now (part .entry)))) ⌝ }
+{
+    let mut left = count;
+    let mut from: usize = 0;
+    let mut to = at;
+    while 0 < left {
+        out[to] = part[from];
+        left -= 1;
+        from += 2;
+        to += 1;
+    }
+}
+
+// Whether each metavariable of a subterm stands on the left, too. One that has no row is looked for among all on the left, which may have more
+// metavariables than a table has rows.
+pub fn all_stand(part: &[u32], rows: &[u32], left: &[u32]) -> bool
+    requires { ⌜ Begins 1 (now part) × Begins 1 (now left) × Standing (rowsIn (now rows)) (front (now left)) ⌝ }
+    ensures { λ r. ⌜ r ≡ contains (metas (front (now (part .entry)))) (metas (front (now (left .entry)))) ⌝ }
+{
+    let mut owed: usize = 1;
+    let mut at: usize = 0;
+    while 0 < owed {
+        let word = part[at];
+        let count = part[at + 1];
+        owed = owed - 1 + count as usize;
+        at += 2;
+        if word < FIRST_METAVARIABLE {
+            continue;
+        }
+        if word == ABSTRACTION {
+            continue;
+        }
+        let name = word - FIRST_METAVARIABLE;
+        let Found::At(_) = find(rows, name, count) else {
+            if stands(left, name, count) {
+                continue;
+            }
+            return false;
+        };
+    }
+    true
+}
