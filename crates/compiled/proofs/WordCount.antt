@@ -55,7 +55,7 @@ abbrev keyWords : {s : Sort} → Tm s → ℕ
 keyWords {s = one} t = 2
 keyWords {s = many} ts = 2 * len ts
 
-right-bound : {s : Sort} (t : Tm s) → keyWords t + rightWords t ≤ 6 * nodes t
+pub right-bound : {s : Sort} (t : Tm s) → keyWords t + rightWords t ≤ 6 * nodes t
 right-bound (Var x) = omega arith
 right-bound (Sym s ts) = let h = right-bound ts in omega arith
 right-bound (Meta z ts) = let h = right-bound ts in omega arith

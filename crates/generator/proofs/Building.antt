@@ -17,61 +17,18 @@ use Rattle.documents.specs.Translation.{Row, row, Located, located, further, lo
 use Rattle.documents.proofs.Lists.{never}
 use Rattle.tables.specs.Parts.{terms, front, Begins, wordCount}
 use Rattle.tables.proofs.Parts.{headed, Step, step, begins-inside, begins-less, Passed, passed, no-terms, front-term, words-fit, in-table, from, from-drop}
-use Rattle.tables.proofs.Walks.{at-variable, at-abstraction}
-use Rattle.tables.proofs.Sides.{arguments-are}
+use Rattle.tables.proofs.Walks.{at-abstraction, walk-from}
+use Rattle.tables.proofs.Fronts.{last-word, root, arguments-begin, argument-count, front-variable, front-symbol, front-metavariable, front-abstraction}
 use Rattle.symbols.specs.Rows.{rowsIn, foundIn, Low}
 use Rattle.symbols.specs.declared.Found.the-variants.{At, Nothing}
-use Rattle.symbols.proofs.Rows.{placed}
+use Rattle.symbols.proofs.Located.{Entry, entry}
 use Rattle.generator.specs.declared.right.Built.{Built}
 use Rattle.generator.specs.Written.{Fits, Wrote}
-use Rattle.generator.specs.Building.{rightCode, rightCodes, rightBodies, Ready, Metavariable, Builds}
-use Rattle.generator.proofs.Written.{words-⧺, Writing, writing-from, writing-on, writing-last, writing-ended, writing-as, fits-first}
+use Rattle.generator.specs.Matching.{Metavariable}
+use Rattle.generator.specs.Building.{rightCode, rightCodes, rightBodies, Ready, Builds}
+use Rattle.generator.proofs.Written.{words-⧺, Writing, writing-from, writing-on, writing-last, writing-ended, writing-as, fits-first, take-left}
 
 -- ---- The node that a part begins with
-
-module _ {part : List ℕ} (b : Begins 1 part) where
-  root : Step (getD part 0 0 / 65536) (getD part 0 0 % 65536) (getD part 1 0) (terms 1 part) (terms (getD part 1 0) (drop 2 part))
-  root = let e : 1 - 1 + getD part 1 0 ≡ getD part 1 0 = omega arith in rw e at (step part 0 1 b (omega arith))
-
-  front-is : (t : Term) (us : Terms) → terms 1 part ≡ Cons t us → front part ≡ t
-  front-is t us e = cc (front-term part b)
-
-  arguments-begin : Begins (getD part 1 0) (drop 2 part)
-  arguments-begin = let e : 1 - 1 + getD part 1 0 ≡ getD part 1 0 = omega arith in rw e at (begins-inside part 0 1 b (omega arith))
-
-  front-headed : front part ≡ headed (getD part 0 0 / 65536) (getD part 0 0 % 65536) (terms (getD part 1 0) (drop 2 part))
-  front-headed = rw (arguments-are (getD part 1 0) (drop 2 part) root) (front-is _ _ (root .node))
-
-  argument-count : len (terms (getD part 1 0) (drop 2 part)) ≡ getD part 1 0
-  argument-count = rw (arguments-are (getD part 1 0) (drop 2 part) root) (root .count)
-
-  front-variable : getD part 0 0 < 65536 → front part ≡ Var (getD part 0 0)
-  front-variable v = front-is _ _ (at-variable part 0 1 b (omega arith) v .terms-are)
-
-  front-abstraction : getD part 0 0 ≡ 196608 → front part ≡ Abst (front (drop 2 part))
-  front-abstraction v = front-is _ _ (at-abstraction part 0 1 b (omega arith) v .terms-are)
-
-  front-symbol : 65536 ≤ getD part 0 0 → getD part 0 0 < 131072 → front part ≡ Sym (getD part 0 0 - 65536) (terms (getD part 1 0) (drop 2 part))
-  front-symbol lo hi =
-      let k : getD part 0 0 / 65536 ≡ 1 = omega arith in
-      let s : getD part 0 0 % 65536 ≡ getD part 0 0 - 65536 = omega arith in
-      rw (front-headed, k, s)
-
-  front-metavariable : Metavariable part → front part ≡ Meta (getD part 0 0 - 131072) (terms (getD part 1 0) (drop 2 part))
-  front-metavariable m =
-      let lo = m .lowest in
-      let hi = m .highest in
-      let k : getD part 0 0 / 65536 ≡ 2 = omega arith in
-      let s : getD part 0 0 % 65536 ≡ getD part 0 0 - 131072 = omega arith in
-      rw (front-headed, k, s)
-
--- the word of no other node is as high
-not-abstraction : {k s c w : ℕ} {ts us : Terms} → Step k s c ts us → w / 65536 ≡ k → w % 65536 ≡ s → ((w ≡ 196608) → ⊥) → w < 196608
-not-abstraction {k = zero} p e f ne = omega arith
-not-abstraction {k = suc zero} p e f ne = omega arith
-not-abstraction {k = suc (suc zero)} p e f ne = omega arith
-not-abstraction {k = suc (suc (suc zero))} p e f ne = let z = p .shape .0 in absurd (ne (omega arith))
-not-abstraction {k = suc (suc (suc (suc k)))} p e f ne = absurd (p .shape)
 
 module _ {part : List ℕ} {under : ℕ} {rows : List ℕ} (g : Ready 1 part under rows) where
   -- a node has two words
@@ -79,7 +36,7 @@ module _ {part : List ℕ} {under : ℕ} {rows : List ℕ} (g : Ready 1 part und
   root-words = in-table part 0 (g .begins) (omega arith)
 
   pub is-metavariable : 131072 ≤ getD part 0 0 → ((getD part 0 0 ≡ 196608) → ⊥) → Metavariable part
-  is-metavariable lo ne = record { lowest = lo; highest = not-abstraction (root (g .begins)) refl refl ne }
+  is-metavariable lo ne = record { lowest = lo; highest = let k = last-word (walk-from (g .begins)) (omega arith) in omega arith }
 
   -- the arguments are read with the same rows
   pub ready-arguments : Ready (getD part 1 0) (from 2 part) under rows
@@ -199,39 +156,6 @@ module _ {part : List ℕ} {under : ℕ} {rows : List ℕ} (g : Ready 1 part und
 
 -- ---- A metavariable
 
--- a location that was found is that of a row, whose depth is low
-pub record Entry (rows : List ℕ) (z k l : ℕ) : Type 0 where
-  pub found : lookup z k (rowsIn rows) ≡ some (located l (row z k (getD rows (11 * l + 2) 0) (take k (drop (11 * l + 3) rows))))
-  pub within : 11 * l + 11 ≤ length rows
-  pub low : getD rows (11 * l + 2) 0 < 64
-
-abbrev LowFound : Option Located → Type 0
-LowFound none = Unit {0}
-LowFound (some (located l (row z k b a))) = b < 64
-
-low-found : (z k : ℕ) (tab : List Row) → Low tab → LowFound (lookup z k tab)
-low-found z k [] h = tt
-low-found z k (row z′ k′ b a ∷ tab) h = go (eqb z z′ && eqb k k′) (lookup z k tab) (low-found z k tab (h .1))
-  where
-    go : (q : Bool) (o : Option Located) → LowFound o → LowFound (cond q (some (located 0 (row z′ k′ b a))) (further o))
-    go true o p = h .0
-    go false none p = tt
-    go false (some (located l (row z″ k″ b″ a″))) p = p
-
-located-at : (l : ℕ) (o : Option Located) → At l ≡ foundIn o → (r : Row) × (o ≡ some (located l r))
-located-at l none e = never (cc)
-located-at l (some (located m r)) e = (r, cc)
-
-entry : (rows : List ℕ) (z k l : ℕ) → Low (rowsIn rows) → At l ≡ foundIn (lookup z k (rowsIn rows)) → Entry rows z k l
-entry rows z k l lo e =
-    let f = located-at l (lookup z k (rowsIn rows)) e in
-    let p = placed rows z k l (f .0) (f .1) in
-    let i : 11 * l + 0 ≡ 11 * l = omega arith in
-    let r : f .0 ≡ row z k (getD rows (11 * l + 2) 0) (take k (drop (11 * l + 3) rows)) =
-    p .is-row ∙ rw (getD-drop (11 * l) rows 0 0, getD-drop (11 * l) rows 1 0, getD-drop (11 * l) rows 2 0, drop-drop 3 (11 * l) rows, i, p .name, p .count) refl in
-    let q : lookup z k (rowsIn rows) ≡ some (located l (row z k (getD rows (11 * l + 2) 0) (take k (drop (11 * l + 3) rows)))) = cc (f .1) in
-    record { found = q; within = p .within; low = rw q at (low-found z k (rowsIn rows) lo) }
-
 length-rhs : (tab : List Row) (n : ℕ) (ts : Terms) → length (rhs tab n ts) ≡ len ts
 length-rhs tab n Nil = refl
 length-rhs tab n (Cons t ts) = ap suc (length-rhs tab n ts)
@@ -248,7 +172,7 @@ module _ {part : List ℕ} {under : ℕ} {rows : List ℕ} (g : Ready 1 part und
 
   code-metavariable : rightCode rows under (front part) ≡ words (rhsMeta under (rhs (rowsIn rows) under (terms (getD part 1 0) (drop 2 part))) Look)
   unfolding rightCode
-  code-metavariable = rw (front-metavariable (g .begins) m, argument-count (g .begins))
+  code-metavariable = rw (front-metavariable (g .begins) (m .lowest) (m .highest), argument-count (g .begins))
 
   -- one without a row has no code
   code-absent : Nothing ≡ foundIn Look → rightCode rows under (front part) ≡ []
@@ -302,7 +226,7 @@ module _ {part : List ℕ} {under : ℕ} {rows : List ℕ} (g : Ready 1 part und
             → Builds (terms (getD part 1 0) (from 2 part)) (rightBodies rows under (11 * l + 3) (getD part 1 0) (terms (getD part 1 0) (from 2 part))) mid new first built
             → Builds (front part) (rightCode rows under (front part)) old new at (record { read = 2 + built .read; next = built .next })
         builds-metavariable r = record {
-          read = let q = rw from-drop at (r .read) in rw (front-metavariable (g .begins) m) (omega arith);
+          read = let q = rw from-drop at (r .read) in rw (front-metavariable (g .begins) (m .lowest) (m .highest)) (omega arith);
           wrote = writing-last writing-bodies (r .wrote);
         }
 
@@ -392,14 +316,6 @@ module _ {part : List ℕ} {count under : ℕ} {rows old : List ℕ} {at : ℕ} 
   joining-ended h = record { read = all-read (w .going) h; wrote = writing-ended (writing-as _ (no-codes h) (w .writing)) }
 
 -- ---- Their bodies: each code behind its key and its length, which are written when the code is
-
--- the keys that are left
-take-left : (n : ℕ) (l : List ℕ) (i : ℕ) → 0 < n → i + n ≤ length l → take n (drop i l) ≡ getD l i 0 ∷ take (n - 1) (drop (i + 1) l)
-take-left zero l i h k = absurd (omega arith)
-take-left (suc n) l i h k =
-    let e : suc n - 1 ≡ n = omega arith in
-    let f : i < length l = omega arith in
-    rw (e, add-one i, drop-cons l i 0 f)
 
 set-sets : (d : List ℕ) (i j v : ℕ) (ws : List ℕ) → i < j → set (sets d j ws) i v ≡ sets (set d i v) j ws
 set-sets d i j v [] h = refl

@@ -25,20 +25,17 @@ use Rattle.compiled.proofs.Unlisted.{unlisted, unlisted-others}
 use Rattle.tables.specs.Parts.{terms, front, Begins, wordCount}
 use Rattle.tables.proofs.Parts.{join, Step, StepAt, step, begins-inside, begins-less, passed, words-fit, in-table, no-terms, front-term}
 use Rattle.tables.proofs.Walks.{at-variable, AtAbstraction, at-abstraction, Walk, walk-from, walk-variable, ended, Walking, walking-from, walking-on, walking-variable, walking-abstraction, walking-term, walking-ended}
-use Rattle.tables.proofs.Sides.{is-variable, variables-behind, arguments-are}
+use Rattle.tables.proofs.Sides.{is-variable, variables-behind}
+use Rattle.tables.proofs.Fronts.{last-word, root, arguments-begin, argument-count, front-metavariable}
 use Rattle.symbols.specs.declared.Found.the-variants.{At, Nothing}
-use Rattle.symbols.specs.Rows.{rowIn, rowsIn, foundIn, Low}
-use Rattle.symbols.proofs.Rows.{placed}
+use Rattle.symbols.specs.Rows.{rowsIn, foundIn}
+use Rattle.symbols.proofs.Located.{is-nothing, Entry, entry}
 use Rattle.generator.specs.declared.left.Matched.{Matched}
 use Rattle.generator.specs.Written.{Fits, Wrote}
-use Rattle.generator.specs.Matching.{leftCode, Variables, First, firstCode, Later, laterCode, IsMetavariable, Asked, Done}
-use Rattle.generator.proofs.Written.{words-⧺, Writing, writing-from, writing-on, writing-ended, writing-last, writing-as, fits-first}
+use Rattle.generator.specs.Matching.{leftCode, Variables, First, firstCode, Later, laterCode, Metavariable, Asked, Done}
+use Rattle.generator.proofs.Written.{words-⧺, Writing, writing-from, writing-on, writing-ended, writing-last, writing-as, fits-first, take-left}
 
 -- ---- Variables
-
-take-here : (l : List ℕ) (i n : ℕ) → 0 < n → i < length l → take n (drop i l) ≡ getD l i 0 ∷ take (n - 1) (drop (i + 1) l)
-take-here l i zero h k = absurd (omega arith)
-take-here l i (suc n) h k = let e : suc n - 1 ≡ n = omega arith in rw (drop-cons l i 0, add-one i, e)
 
 -- so many variables are left from a place on
 pub record Left (part : List ℕ) (at n : ℕ) : Type 0 where
@@ -70,7 +67,7 @@ pairing-from v h f = record { variables = left-from v; olds = omega arith; writi
 
 module _ {old new code₀ all code : List ℕ} {at left i read place : ℕ} (p : Pairing old new code₀ at all left i read place code) (h : 0 < left) where
   pairs-here : Writing code₀ at all code place ((getD old i 0 ∷ getD new read 0 ∷ []) ++ pairWords (pairlists (take (left - 1) (drop (i + 1) old)) (unvar (terms (left - 1) (drop (read + 2) new)))))
-  pairs-here = let o = p .olds in writing-as _ (rw (take-here old i left h (omega arith), unvar-here (p .variables) h)) (p .writing)
+  pairs-here = let o = p .olds in writing-as _ (rw (take-left left old i h (omega arith), unvar-here (p .variables) h)) (p .writing)
 
   pub pairing-fits : Fits code place (getD old i 0 ∷ getD new read 0 ∷ [])
   pairing-fits = fits-first (getD old i 0 ∷ getD new read 0 ∷ []) _ (pairs-here .fits)
@@ -250,12 +247,6 @@ nodes-vars : (l : List ℕ) → nodes (vars l) ≡ length l
 nodes-vars [] = refl
 nodes-vars (x ∷ l) = let h = nodes-vars l in omega arith
 
-meta-node : {k s c : ℕ} {ts us : Terms} (p : Step k s c ts us) → k ≡ 2 → ts ≡ Cons (Meta s (p .arguments)) (p .later)
-meta-node {k = zero} p e = absurd (omega arith)
-meta-node {k = suc zero} p e = absurd (omega arith)
-meta-node {k = suc (suc zero)} p e = p .node
-meta-node {k = suc (suc (suc k))} p e = absurd (omega arith)
-
 -- a part that begins with a metavariable, under so many abstractions
 pub record MetaAt (part : List ℕ) (under : ℕ) : Type 0 where
   pub term : front part ≡ Meta (getD part 0 0 - 131072) (terms (getD part 1 0) (drop 2 part))
@@ -265,32 +256,25 @@ pub record MetaAt (part : List ℕ) (under : ℕ) : Type 0 where
   pub within : 2 ≤ length part
   pub first : First (drop 2 part) (getD part 1 0) under
 
-pub meta-at : {part : List ℕ} {under : ℕ} → Begins 1 part → IsMetavariable part → Simple under (front part) → MetaAt part under
+pub meta-at : {part : List ℕ} {under : ℕ} → Begins 1 part → Metavariable part → Simple under (front part) → MetaAt part under
 meta-at {part} {under} b i s =
-    let lo = i .from-first in
-    let hi = i .below in
-    let p = step part 0 1 b (omega arith) in
-    let n = meta-node p (omega arith) in
-    let z = zero-add (getD part 1 0) in
-    let a : terms (getD part 1 0) (drop 2 part) ≡ p .arguments = arguments-are (0 + getD part 1 0) (drop 2 part) p in
-    let f : front part ≡ Meta (getD part 0 0 % 65536) (p .arguments) = cc (front-term part b, n) in
-    let m : getD part 0 0 % 65536 ≡ getD part 0 0 - 131072 = omega arith in
-    let t : front part ≡ Meta (getD part 0 0 - 131072) (terms (getD part 1 0) (drop 2 part)) = f ∙ ap₂ Meta m (sym a) in
+    let t = front-metavariable b (i .lowest) (i .highest) in
     let v = rw t at s in
-    let c : len (terms (getD part 1 0) (drop 2 part)) ≡ getD part 1 0 = ap len a ∙ p .count in
-    let e = v .1 in
     let l = v .0 in
+    let e = v .1 in
+    let c = argument-count b in
     let k : length l ≡ getD part 1 0 = sym (len-vars l) ∙ ap len (sym e) ∙ c in
-    let g = begins-inside part 0 1 b (omega arith) in
     let w = in-table part 0 b (omega arith) in
     record {
       term = t;
       count = c;
-      narrow = p .narrow;
-      words-are = let x : nodes (front part) ≡ suc (length l) = ap (λ (u : Term). nodes u) t ∙ ap (λ (us : Terms). nodes (Meta 0 us)) e ∙ ap (λ (y : ℕ). suc y) (nodes-vars l) in omega arith;
+      narrow = root b .narrow;
+      words-are =
+          let x : nodes (front part) ≡ suc (length l) = ap (λ (u : Term). nodes u) t ∙ ap (λ (us : Terms). nodes (Meta 0 us)) e ∙ ap (λ (y : ℕ). suc y) (nodes-vars l) in
+          omega arith;
       within = omega arith;
       first = record {
-        variables = record { begins = rw z at g; variables = ap areVars e ∙ vars-are l };
+        variables = record { begins = arguments-begin b; variables = ap areVars e ∙ vars-are l };
         others =
             let u = unlisted-others under l (v .2) (v .3) in
             let q : length (bvset under (terms (getD part 1 0) (drop 2 part))) ≡ length (unlisted under l) = ap (λ (is : List ℕ). length (unlisted under is)) (ap unvar e ∙ unvar-vars l) in
@@ -298,36 +282,13 @@ meta-at {part} {under} b i s =
       };
     }
 
--- ---- Its row
-
-found-nothing : (o : Option Located) → Nothing ≡ foundIn o → o ≡ none
-found-nothing none e = refl
-found-nothing (some (located l r)) e = never (cc)
-
-found-at : (o : Option Located) (l : ℕ) → At l ≡ foundIn o → (r : Row) × (o ≡ some (located l r))
-found-at none l e = never (cc)
-found-at (some (located m r)) l e = (r, cc)
-
-abbrev above : Row → ℕ
-above (row z k b a) = b
-
-low-row : (z k l : ℕ) (r : Row) (rows : List Row) → Low rows → lookup z k rows ≡ some (located l r) → above r < 64
-low-row z k l r [] h e = never (cc)
-low-row z k l r (row z′ k′ b a ∷ rows) h e = go (eqb z z′ && eqb k k′) (lookup z k rows) e (λ m. low-row z k m r rows (h .1))
-  where
-    go : (q : Bool) (o : Option Located) → cond q (some (located 0 (row z′ k′ b a))) (further o) ≡ some (located l r)
-        → ((m : ℕ) → o ≡ some (located m r) → above r < 64) → above r < 64
-    go true o e ih = let x : row z′ k′ b a ≡ r = cc in rw (sym (ap above x)) (h .0)
-    go false none e ih = never (cc)
-    go false (some (located m y)) e ih = ih m (cc)
-
 -- ---- The three cases of a metavariable
 
 -- what is looked up for the metavariable that a part begins with
 abbrev pub sought : List ℕ → List ℕ → Option Located
 sought part rows = lookup (getD part 0 0 - 131072) (getD part 1 0) (rowsIn rows)
 
-module _ {part rows code : List ℕ} {under sets at : ℕ} (a : Asked part rows code under sets at) (i : IsMetavariable part) where
+module _ {part rows code : List ℕ} {under sets at : ℕ} (a : Asked part rows code under sets at) (i : Metavariable part) where
   pub here : MetaAt part under
   here = meta-at (a .begins) i (a .simple)
 
@@ -340,7 +301,7 @@ module _ {part rows code : List ℕ} {under sets at : ℕ} (a : Asked part rows 
   -- the table does not have it
   pub left-none : Nothing ≡ foundIn (sought part rows) → Done part rows code code under sets at (record { read = 2 + 2 * getD part 1 0; sets = sets; next = at })
   left-none e =
-      let n = found-nothing (sought part rows) e in
+      let n = is-nothing (sought part rows) e in
       record {
         read = sym (here .words-are);
         sets-left = sym (sets-are ∙ ap (setsLess sets) n);
@@ -348,22 +309,13 @@ module _ {part rows code : List ℕ} {under sets at : ℕ} (a : Asked part rows 
       }
 
   module _ {l : ℕ} (e : At l ≡ foundIn (sought part rows)) where
-    -- its row
-    pub its-place : 11 * l + 11 ≤ length rows
-    its-place = let f = found-at (sought part rows) l e in placed rows (getD part 0 0 - 131072) (getD part 1 0) l (f .0) (f .1) .within
-
-    its-count : getD (drop (11 * l) rows) 1 0 ≡ getD part 1 0
-    its-count = let f = found-at (sought part rows) l e in getD-drop (11 * l) rows 1 0 ∙ placed rows (getD part 0 0 - 131072) (getD part 1 0) l (f .0) (f .1) .count
-
-    its-row : sought part rows ≡ some (located l (rowIn (drop (11 * l) rows)))
-    its-row =
-        let f = found-at (sought part rows) l e in
-        f .1 ∙ ap (λ (r : Row). some (located l r)) (placed rows (getD part 0 0 - 131072) (getD part 1 0) l (f .0) (f .1) .is-row)
+    pub its-row : Entry rows (getD part 0 0 - 131072) (getD part 1 0) l
+    its-row = entry rows (getD part 0 0 - 131072) (getD part 1 0) l (a .low) e
 
     -- its first occurrence
     module _ (h : l < sets) where
       first-is : leftCode rows under sets (front part) ≡ firstCode (drop 2 part) (getD part 1 0) under
-      first-is = rw (code-is, its-row, lt-ltb l sets h)
+      first-is = rw (code-is, its-row .found, lt-ltb l sets h)
 
       pub left-first-fits : First (drop 2 part) (getD part 1 0) under × Fits code at (firstCode (drop 2 part) (getD part 1 0) under)
       left-first-fits = (here .first, rw first-is at (a .fits))
@@ -372,25 +324,25 @@ module _ {part rows code : List ℕ} {under sets at : ℕ} (a : Asked part rows 
           → Done part rows code new under sets at (record { read = 2 + 2 * getD part 1 0; sets = sets - 1; next = next })
       left-first w = record {
         read = sym (here .words-are);
-        sets-left = sym (sets-are ∙ rw (its-row, lt-ltb l sets h));
+        sets-left = sym (sets-are ∙ rw (its-row .found, lt-ltb l sets h));
         wrote = rw first-is w;
       }
 
     -- a later one
     module _ (h : sets ≤ l) where
       later-is : leftCode rows under sets (front part) ≡ laterCode (drop (11 * l) rows) (drop 2 part) (getD part 1 0) under (l - sets)
-      later-is = rw (code-is, its-row, le-ltb l sets h, its-count)
+      later-is = rw (code-is, its-row .found, le-ltb l sets h, getD-drop (11 * l) rows 2 0, drop-drop 3 (11 * l) rows)
 
       pub left-later-fits : Later (drop (11 * l) rows) (drop 2 part) (getD part 1 0) under
           × Fits code at (laterCode (drop (11 * l) rows) (drop 2 part) (getD part 1 0) under (l - sets))
       left-later-fits =
           let d = length-drop (11 * l) rows in
-          let w = its-place in
+          let w = its-row .within in
           (record {
             variables = here .first .variables;
             whole = omega arith;
             narrow = here .narrow;
-            low = low-row (getD part 0 0 - 131072) (getD part 1 0) l (rowIn (drop (11 * l) rows)) (rowsIn rows) (a .low) its-row;
+            low = rw (getD-drop (11 * l) rows 2 0) (its-row .low);
             shallow = a .shallow;
           }, rw later-is at (a .fits))
 
@@ -398,7 +350,7 @@ module _ {part rows code : List ℕ} {under sets at : ℕ} (a : Asked part rows 
           → Done part rows code new under sets at (record { read = 2 + 2 * getD part 1 0; sets = sets; next = next })
       left-later w = record {
         read = sym (here .words-are);
-        sets-left = sym (sets-are ∙ rw (its-row, le-ltb l sets h));
+        sets-left = sym (sets-are ∙ rw (its-row .found, le-ltb l sets h));
         wrote = rw later-is w;
       }
 
@@ -426,14 +378,6 @@ symbol-node : {k s c : ℕ} {ts us : Terms} (p : Step k s c ts us) → k ≡ 1 �
 symbol-node {k = zero} p e = absurd (omega arith)
 symbol-node {k = suc zero} p e = p .node
 symbol-node {k = suc (suc k)} p e = absurd (omega arith)
-
--- a first word that is neither below a metavariable's nor an abstraction's is a metavariable's
-no-other : {k s c w : ℕ} {ts us : Terms} → Step k s c ts us → w / 65536 ≡ k → w % 65536 ≡ s → 131072 ≤ w → ((w ≡ 196608) → ⊥) → w < 196608
-no-other {k = zero} p e f lo ne = omega arith
-no-other {k = suc zero} p e f lo ne = omega arith
-no-other {k = suc (suc zero)} p e f lo ne = omega arith
-no-other {k = suc (suc (suc zero))} p e f lo ne = let z = p .shape .0 in absurd (ne (omega arith))
-no-other {k = suc (suc (suc (suc k)))} p e f lo ne = absurd (p .shape)
 
 -- terms of a left side still to be translated, and their words still to be written
 pub record Translating (part rows old : List ℕ) (under sets₀ at owed read sets place : ℕ) (new : List ℕ) : Type 0 where
@@ -590,13 +534,13 @@ module _ {part rows old new : List ℕ} {under sets₀ at owed read sets place :
          ++ words (lhs (rowsIn rows) under (setsAfter (rowsIn rows) sets (front (drop read part))) (terms (owed - 1) (drop (read + wordCount (front (drop read part))) part))))
     term-here = writing-as _ (words-first (rowsIn rows) under sets term-is) (t .writing)
 
-    pub meta-asked : Asked part rows old under sets₀ at → Asked (drop read part) rows new under sets place × IsMetavariable (drop read part)
+    pub meta-asked : Asked part rows old under sets₀ at → Asked (drop read part) rows new under sets place × Metavariable (drop read part)
     meta-asked a =
         let z : read + 0 ≡ read = omega arith in
         let g : getD (drop read part) 0 0 ≡ getD part read 0 = getD-drop read part 0 0 ∙ ap (λ (i : ℕ). getD part i 0) z in
-        let k = no-other (step part read owed (t .walking .walk .begins) h) refl refl lo ne in
+        let k = last-word (t .walking .walk) h in
         (asked-for (drop read part) under place new _ a (begins-less 1 (omega arith) (t .walking .walk .begins)) (simple-first under term-is (t .simple) .0) (a .shallow) (term-here .fits),
-         record { from-first = omega arith; below = omega arith })
+         record { lowest = omega arith; highest = omega arith })
 
     pub meta-on : {newer : List ℕ} {r : Matched} → Done (drop read part) rows new newer under sets place r
         → Translating part rows old under sets₀ at (owed - 1) (read + r .read) (r .sets) (r .next) newer

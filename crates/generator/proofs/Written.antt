@@ -1,11 +1,12 @@
 -- Writing goes on: what is still to be written from the place where it stands makes the table that was asked for.
 use mathlib.Core.Path.{_≡_, refl, sym, ap, _∙_}
-use Prim.Native.Nat.{ℕ, suc, _+_, _≤_, _<_}
+use Prim.Native.Nat.{ℕ, zero, suc, _+_, _-_, _≤_, _<_}
 use native.Mathlib.Nat.{add-zero}
+use native.Mathlib.Numerals.{add-one}
 use native.Mathlib.Omega.{arith}
 use mathlib.Core.List.{List, [], _∷_, _++_, append-assoc}
-use lib.ListN.{length, set, length-append}
-use lib.Seq.{sets, length-sets}
+use lib.ListN.{length, take, drop, getD, set, length-append}
+use lib.Seq.{sets, length-sets, drop-cons}
 use Rattle.documents.specs.Limits.{codeLimit}
 use Rattle.documents.specs.Instructions.{End, _▸_, Program, words}
 use Rattle.documents.specs.Translation.{_⧺_}
@@ -62,3 +63,11 @@ writing-last w o = record { code = o .code ∙ w .code; place = let e = w .ends 
 -- other words that are the same
 pub writing-as : {old new : List ℕ} {at place : ℕ} {all rest : List ℕ} (other : List ℕ) → rest ≡ other → Writing old at all new place rest → Writing old at all new place other
 writing-as other e w = rw e at w
+
+-- the first of so many from a place on
+pub take-left : (n : ℕ) (l : List ℕ) (i : ℕ) → 0 < n → i + n ≤ length l → take n (drop i l) ≡ getD l i 0 ∷ take (n - 1) (drop (i + 1) l)
+take-left zero l i h k = absurd (omega arith)
+take-left (suc n) l i h k =
+    let e : suc n - 1 ≡ n = omega arith in
+    let f : i < length l = omega arith in
+    rw (e, add-one i, drop-cons l i 0 f)

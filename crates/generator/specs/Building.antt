@@ -1,8 +1,8 @@
 -- The right side's code as words (004, section 6.2), and what the functions that write it require and ensure.
 use mathlib.Core.Path.{_≡_}
-use Prim.Native.Nat.{ℕ, _+_, _≤_, _<_}
+use Prim.Native.Nat.{ℕ, _+_, _≤_}
 use mathlib.Core.List.{List}
-use lib.ListN.{length, getD, take, drop}
+use lib.ListN.{length, take, drop}
 use Rattle.documents.specs.Terms.{Sort, Tm, Term, Terms}
 use Rattle.documents.specs.Instructions.{End, words}
 use Rattle.documents.specs.Translation.{joined, keyed, rhs}
@@ -29,11 +29,6 @@ pub record Ready (n : ℕ) (part : List ℕ) (under : ℕ) (rows : List ℕ) : T
   pub shallow : under + length part ≤ 1024
   pub low : Low (rowsIn rows)
   pub few : length rows ≤ 176
-
--- the part begins with a metavariable
-pub record Metavariable (part : List ℕ) : Type 0 where
-  pub lowest : 131072 ≤ getD part 0 0
-  pub highest : getD part 0 0 < 196608
 
 -- A term or terms were gone over, and the words ws are written from that place on.
 pub record Builds {s : Sort} (t : Tm s) (ws old new : List ℕ) (at : ℕ) (built : Built) : Type 0 where

@@ -45,9 +45,9 @@ laterCode row arguments count under entry =
     words (EQI entry (offset under (getD row 2 0)) (pairlists (take count (drop 3 row)) (unvar (terms count arguments))) ▸ NEXT ▸ End)
 
 -- the part begins with a metavariable
-pub record IsMetavariable (part : List ℕ) : Type 0 where
-  pub from-first : 131072 ≤ getD part 0 0
-  pub below : getD part 0 0 < 196608
+pub record Metavariable (part : List ℕ) : Type 0 where
+  pub lowest : 131072 ≤ getD part 0 0
+  pub highest : getD part 0 0 < 196608
 
 -- What is asked for: the subterm that a part begins with is that of a left side, the symbol table has at most sixteen rows, and there is room.
 pub record Asked (part rows code : List ℕ) (under sets at : ℕ) : Type 0 where

@@ -25,7 +25,7 @@ ghost use Rattle.documents.specs.Instructions.{pairWords};
 ghost use Rattle.documents.specs.Translation.{unvar, bvset};
 ghost use Rattle.tables.specs.Parts.{terms};
 ghost use Rattle.generator.specs.Written.{Fits, Wrote};
-ghost use Rattle.generator.specs.Matching.{Asked, Done, IsMetavariable, Variables, First, firstCode, Later, laterCode};
+ghost use Rattle.generator.specs.Matching.{Asked, Done, Metavariable, Variables, First, firstCode, Later, laterCode};
 
 // The words of the subterm that was gone over, the SETs still to come behind it, and the place behind its code.
 pub struct Matched {
@@ -82,7 +82,7 @@ pub fn left_side(part: &[u32], under: u32, sets: usize, rows: &[u32], code: &mut
 
 // A metavariable: the first occurrence of it where its location is below the SETs still to come, else a later one.
 fn left_metavariable(part: &[u32], under: u32, sets: usize, rows: &[u32], code: &mut [u32], at: usize) -> Matched
-    requires { ⌜ Asked (now part) (now rows) (now code) under sets at × IsMetavariable (now part) ⌝ }
+    requires { ⌜ Asked (now part) (now rows) (now code) under sets at × Metavariable (now part) ⌝ }
     ensures { λ r. ⌜ Done (now (part .entry)) (now (rows .entry)) (now (code .entry)) (now (code .exit)) under sets at r ⌝ }
 {
     let count = part[1];

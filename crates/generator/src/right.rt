@@ -20,7 +20,8 @@ ghost use Prim.Native.Nat.{_+_, _≤_};
 ghost use lib.ListN.{length};
 ghost use Rattle.tables.specs.Parts.{front, terms};
 ghost use Rattle.generator.specs.Written.{Fits};
-ghost use Rattle.generator.specs.Building.{rightCode, rightCodes, rightBodies, Ready, Metavariable, Builds};
+ghost use Rattle.generator.specs.Matching.{Metavariable};
+ghost use Rattle.generator.specs.Building.{rightCode, rightCodes, rightBodies, Ready, Builds};
 
 // The words of what was gone over, and the place behind its code.
 pub struct Built {

@@ -1,6 +1,6 @@
 -- Which metavariables have a row: those that are entered in a table are those of the term that it was made of; and how a walk asks for each.
 use mathlib.Core.Path.{_≡_, refl, sym, ap, ap₂, _∙_}
-use Prim.Native.Nat.{ℕ, zero, suc, _+_, _-_, _/_, _%_, _≤_, _<_}
+use Prim.Native.Nat.{ℕ, suc, _+_, _-_, _%_, _≤_, _<_}
 use native.Mathlib.Omega.{arith}
 use mathlib.Core.Bool.{Bool, true, false, _&&_, _||_, cond}
 use mathlib.Core.Option.{Option, none, some}
@@ -14,12 +14,13 @@ use Rattle.documents.specs.Translation.{Row, row, Located, located, further, lo
 use Rattle.documents.proofs.Lists.{never, T-of}
 use Rattle.kahrs.proofs.Places.{eqb-both}
 use Rattle.tables.specs.Parts.{terms, front, Begins}
-use Rattle.tables.proofs.Parts.{Step, step}
 use Rattle.tables.proofs.Walks.{Walk, walk-from, walk-on, ended}
 use Rattle.tables.proofs.Sides.{metas-front, metas-here, metas-behind}
+use Rattle.tables.proofs.Fronts.{last-word}
 use Rattle.symbols.specs.declared.Found.the-variants.{At, Nothing}
 use Rattle.symbols.specs.Rows.{rowsIn, foundIn}
 use Rattle.symbols.specs.Entries.{isFound, Standing}
+use Rattle.symbols.proofs.Located.{is-found}
 
 -- ---- Which have a row
 
@@ -86,29 +87,6 @@ standing-table l z k e = sym (found-update 0 l [] (z, k)) ∙ e
 
 pub standing-none : (l : Term) → Standing [] l
 standing-none l z k e = never (cc)
-
--- ---- A node's words
-
-word-kind : {k s c w : ℕ} {ts us : Terms} → Step k s c ts us → w / 65536 ≡ k → w % 65536 ≡ s → w ≤ 196608
-word-kind {k = zero} p e f = omega arith
-word-kind {k = suc zero} p e f = omega arith
-word-kind {k = suc (suc zero)} p e f = omega arith
-word-kind {k = suc (suc (suc zero))} p e f = let z = p .shape .0 in omega arith
-word-kind {k = suc (suc (suc (suc k)))} p e f = absurd (p .shape)
-
--- an abstraction's is the last
-pub last-word : {t : List ℕ} {a n : ℕ} → Walk t a n → 0 < n → getD t a 0 ≤ 196608
-last-word {t} {a} {n} w h = word-kind (step t a n (w .begins) h) refl refl
-
--- ---- What a lookup's answer says
-
-pub is-found : (o : Option Located) (l : ℕ) → At l ≡ foundIn o → isFound o ≡ true
-is-found none l e = never (cc)
-is-found (some x) l e = refl
-
-pub is-nothing : (o : Option Located) → Nothing ≡ foundIn o → o ≡ none
-is-nothing none e = refl
-is-nothing (some (located l r)) e = never (cc)
 
 -- ---- A walk that asks for each metavariable
 

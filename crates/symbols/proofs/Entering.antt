@@ -33,7 +33,7 @@ use Rattle.symbols.specs.declared.Entered.the-variants.{Words, Full}
 use Rattle.symbols.specs.Rows.{rowsIn, foundIn}
 use Rattle.symbols.specs.Entries.{Table, beginning, entered, Enters, isFound}
 use Rattle.symbols.proofs.Stored.{length-rows, row-written}
-use Rattle.symbols.proofs.Asked.{is-nothing, is-found}
+use Rattle.symbols.proofs.Located.{is-nothing, is-found}
 
 -- ---- What an answer says
 

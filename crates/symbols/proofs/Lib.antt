@@ -1,4 +1,5 @@
 pub mod Rows
+pub mod Located
 pub mod Stored
 pub mod Asked
 pub mod Entering

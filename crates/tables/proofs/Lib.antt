@@ -4,3 +4,4 @@ pub mod Accepted
 pub mod Free
 pub mod Renamed
 pub mod Sides
+pub mod Fronts

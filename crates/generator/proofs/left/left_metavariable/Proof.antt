@@ -1,5 +1,5 @@
 use Prim.Native.Nat.{_*_}
-use Rattle.generator.proofs.Matching.{here, its-place, left-none, left-first-fits, left-first, left-later-fits, left-later}
+use Rattle.generator.proofs.Matching.{here, its-row, left-none, left-first-fits, left-first, left-later-fits, left-later}
 use Rattle.tables.proofs.Parts.{from-drop}
 use native.Mathlib.Omega.{arith}
 use mathlib.Core.Path.{sym, _∙_}
@@ -33,11 +33,11 @@ left-metavariable-spec =
     (λ c κs. rw (from-drop 2 (c .before .before .before .before .before .before .before .before .before .before .before .before .args .part .now)) (left-first-fits (c .before .before .before .before .before .before .before .before .before .before .before .before .pre .0) (c .before .before .before .before .before .before .before .before .before .before .before .before .pre .1) (sym (c .before .before .before .before .location .given .1) ∙ c .before .before .before .before .before .before .find .ensures) (c .before .before .if1 .taken)))
     (λ c. search needs)
     (λ c. left-first (c .before .before .before .before .before .before .before .before .before .before .before .before .before .before .before .pre .0) (c .before .before .before .before .before .before .before .before .before .before .before .before .before .before .before .pre .1) (sym (c .before .before .before .before .before .before .before .location .given .1) ∙ c .before .before .before .before .before .before .before .before .before .find .ensures) (c .before .before .before .before .before .if1 .taken) (rw (from-drop 2 (c .before .before .before .before .before .before .before .before .before .before .before .before .before .before .before .args .part .now)) at (c .before .before .first-occurrence .ensures)))
-    (λ c. let p = its-place (c .before .before .before .before .before .before .before .before .before .before .pre .0) (c .before .before .before .before .before .before .before .before .before .before .pre .1) (sym (c .before .before .location .given .1) ∙ c .before .before .before .before .find .ensures) in search needs)
-    (λ c. let p = its-place (c .before .before .before .before .before .before .before .before .before .before .pre .0) (c .before .before .before .before .before .before .before .before .before .before .pre .1) (sym (c .before .before .location .given .1) ∙ c .before .before .before .before .find .ensures) in search needs)
-    (λ c. let p = its-place (c .before .before .before .before .before .before .before .before .before .before .pre .0) (c .before .before .before .before .before .before .before .before .before .before .pre .1) (sym (c .before .before .location .given .1) ∙ c .before .before .before .before .find .ensures) in search needs)
-    (λ c. let p = its-place (c .before .before .before .before .before .before .before .before .before .before .pre .0) (c .before .before .before .before .before .before .before .before .before .before .pre .1) (sym (c .before .before .location .given .1) ∙ c .before .before .before .before .find .ensures) in search needs)
-    (λ c. let p = its-place (c .before .before .before .before .before .before .before .before .before .before .pre .0) (c .before .before .before .before .before .before .before .before .before .before .pre .1) (sym (c .before .before .location .given .1) ∙ c .before .before .before .before .find .ensures) in search needs)
+    (λ c. let p = its-row (c .before .before .before .before .before .before .before .before .before .before .pre .0) (c .before .before .before .before .before .before .before .before .before .before .pre .1) (sym (c .before .before .location .given .1) ∙ c .before .before .before .before .find .ensures) .within in search needs)
+    (λ c. let p = its-row (c .before .before .before .before .before .before .before .before .before .before .pre .0) (c .before .before .before .before .before .before .before .before .before .before .pre .1) (sym (c .before .before .location .given .1) ∙ c .before .before .before .before .find .ensures) .within in search needs)
+    (λ c. let p = its-row (c .before .before .before .before .before .before .before .before .before .before .pre .0) (c .before .before .before .before .before .before .before .before .before .before .pre .1) (sym (c .before .before .location .given .1) ∙ c .before .before .before .before .find .ensures) .within in search needs)
+    (λ c. let p = its-row (c .before .before .before .before .before .before .before .before .before .before .pre .0) (c .before .before .before .before .before .before .before .before .before .before .pre .1) (sym (c .before .before .location .given .1) ∙ c .before .before .before .before .find .ensures) .within in search needs)
+    (λ c. let p = its-row (c .before .before .before .before .before .before .before .before .before .before .pre .0) (c .before .before .before .before .before .before .before .before .before .before .pre .1) (sym (c .before .before .location .given .1) ∙ c .before .before .before .before .find .ensures) .within in search needs)
     (λ c. search needs)
     (λ c. let h = here (c .before .before .before .before .before .before .before .before .before .before .before .pre .0) (c .before .before .before .before .before .before .before .before .before .before .before .pre .1) in search needs)
     (λ c. let h = here (c .before .before .before .before .before .before .before .before .before .before .before .pre .0) (c .before .before .before .before .before .before .before .before .before .before .before .pre .1) in search needs)

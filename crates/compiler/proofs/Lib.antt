@@ -1,0 +1,3 @@
+pub mod Counted
+pub mod Called
+pub mod Generated

@@ -1,0 +1,21 @@
+use Rattle.compiler.proofs.Called.{sides-accepted, call-refused}
+use mathlib.Core.Path.{sym, _∙_}
+use borrow.Author.Needs.{needs}
+use Rattle.compiler.proofs.compile.Statement.{statement}
+use Rattle.compiler.proofs.compile.Tie as tie
+use Rattle.compiler.proofs.compile.Reads as reads
+use Rattle.compiler.proofs.compile.Lts as lts
+use Rattle.compiler.proofs.sides.accept_sides.Reads as accept-sides-reads
+use Rattle.compiler.proofs.translate.Reads as translate-reads
+
+pub compile-spec : {M : Type 1} → statement M
+compile-spec =
+    tie.close
+    (tie.spec
+    (λ c κs. search needs)
+    (λ c. search needs)
+    (λ c. search needs)
+    (λ c κs. let s = c .before .before .before .before .before .before .before .args in sides-accepted (s .left .now) (s .right .now) _ (sym (c .before .enum-told .given .1) ∙ c .before .before .before .accept-sides .ensures))
+    (λ c. search needs)
+    (λ c. c .before .before .translate .ensures)
+    (λ c. let s = c .before .before .before .before .before .before .before .args in call-refused (s .left .now) (s .right .now) (s .code .now) _ (sym (c .before .why .given .1) ∙ c .before .before .before .accept-sides .ensures)))

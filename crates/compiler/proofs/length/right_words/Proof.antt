@@ -1,0 +1,48 @@
+use Rattle.compiler.proofs.Counted.{Counting, counting-from, counting-variable, counting-symbol, counting-abstraction, counting-metavariable, counting-ended}
+use Rattle.tables.proofs.Walks.{walk-on}
+use lib.ListN.{length}
+use native.Mathlib.Omega.{arith}
+use Prim.Native.Nat.{_-_}
+use borrow.Author.Needs.{needs}
+use Rattle.compiler.proofs.length.right_words.Statement.{statement}
+use Rattle.compiler.proofs.length.right_words.Tie as tie
+use Rattle.compiler.proofs.length.right_words.Reads as reads
+use Rattle.compiler.proofs.length.right_words.Lts as lts
+
+abbrev Inv-loop : tie.InvT-loop
+Inv-loop part owed₀ at₀ words₀ owed at words = Counting part owed at words
+
+abbrev μ-loop : tie.MeasureT-loop
+μ-loop part owed₀ at₀ words₀ owed at words = length part - at
+
+pub right-words-spec : {M : Type 1} → statement M
+right-words-spec =
+    tie.close
+    (tie.spec
+    Inv-loop
+    μ-loop
+    (λ c. counting-from (c .pre .0) (c .pre .1))
+    (λ c. search needs)
+    (λ c. search needs)
+    (λ c. search needs)
+    (λ c. search needs)
+    (λ c. search needs)
+    (λ c. let o = walk-on (c .before .before .before .loop .inv .walking .walk) (omega arith) in search needs)
+    (λ c. search needs)
+    (λ c. let o = walk-on (c .before .before .before .loop .inv .walking .walk) (omega arith) in search needs)
+    (λ c. search needs)
+    (λ c. search needs)
+    (λ c. search needs)
+    (λ c. counting-variable (c .before .before .before .before .loop .inv) (omega arith) (c .if1 .taken))
+    (λ c. search needs)
+    (λ c. search needs)
+    (λ c. counting-symbol (c .before .before .before .before .before .loop .inv) (omega arith) (c .before .if1 .left) (c .if2 .taken))
+    (λ c. search needs)
+    (λ c. search needs)
+    (λ c. counting-abstraction (c .before .before .before .before .before .before .loop .inv) (omega arith) (c .if3 .taken))
+    (λ c. let o = walk-on (c .before .before .before .before .before .before .loop .inv .walking .walk) (omega arith) .within in search needs)
+    (λ c. let o = walk-on (c .before .before .before .before .before .before .loop .inv .walking .walk) (omega arith) .within in search needs)
+    (λ c. let o = counting-metavariable (c .before .before .before .before .before .before .loop .inv) (omega arith) (c .before .if2 .left) (c .if3 .left) in let s = o .sum in let b = o .short in search needs)
+    (λ c. search needs)
+    (λ c. counting-metavariable (c .before .before .before .before .before .before .loop .inv) (omega arith) (c .before .if2 .left) (c .if3 .left))
+    (λ c. counting-ended (c .before .loop .inv) (omega arith)))
