@@ -2,15 +2,12 @@
 //! number and counts, the same words, and guards and file left alone.
 
 use linked::compare::{compare, Kind};
+use linked::numbers::{BAD_FILE, DONE};
 use linked::read::Read;
 use second::limits::{FILE_SIDE_WORDS, FILE_SUBJECT_WORDS, FILE_VERSION, FILE_WORD_BYTES};
 use second::seed::{damaged_file, edge_file, file_of, good_rule, random_subject, Rng};
 #[cfg(target_arch = "x86_64")]
 use second::ReadAnswer;
-
-/// Document 01's numbers for a reader.
-const DONE: u32 = 0;
-const BAD_FILE: u32 = 17;
 
 const LIMITS: [usize; 3] = [FILE_SIDE_WORDS, FILE_SIDE_WORDS, FILE_SUBJECT_WORDS];
 
