@@ -11,13 +11,24 @@ use crate::engine::Engine;
 
 /// One way to make calls.
 pub struct Kind<C> {
-    pub name: &'static str,
+    name: &'static str,
     /// The numbers that the documents give to such calls: each must come, and no other.
-    pub numbers: &'static [u32],
+    numbers: &'static [u32],
     /// How many seeds.
-    pub seeds: u64,
+    seeds: u64,
     /// The calls of a seed.
-    pub calls: fn(&mut Rng) -> Vec<C>,
+    calls: fn(&mut Rng) -> Vec<C>,
+}
+
+impl<C> Kind<C> {
+    pub const fn new(
+        name: &'static str,
+        numbers: &'static [u32],
+        seeds: u64,
+        calls: fn(&mut Rng) -> Vec<C>,
+    ) -> Kind<C> {
+        Kind { name, numbers, seeds, calls }
+    }
 }
 
 /// How often each number came.

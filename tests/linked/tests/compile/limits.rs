@@ -1,7 +1,7 @@
 //! Rules at a limit and one step past it: each function takes what is counted, and gives a rule for
 //! each place where the limit holds.
 
-use second::limits::{ARGUMENTS, BINDERS, DEPTH};
+use second::limits::{ARGUMENTS, BINDERS, DEPTH, SIDE_NODES};
 use second::seed::{Rng, Rule, Term};
 
 use crate::accepted::{leaf, name, small, with_metavariables};
@@ -9,6 +9,12 @@ use crate::accepted::{leaf, name, small, with_metavariables};
 /// A metavariable with two arguments and one with none, for rules that are made by hand.
 const PAIR: u32 = 7;
 const SINGLE: u32 = 8;
+
+/// Rules with the most of one thing, the longest code among them.
+pub fn large(_: &mut Rng) -> Vec<Rule> {
+    use second::seed::large::*;
+    vec![wide(), deep(), checks(), repeated(), most_words(), growing(SIDE_NODES)]
+}
 
 /// Sides of so many nodes: the left, the right, both.
 pub fn nodes(rng: &mut Rng, nodes: usize) -> Vec<Rule> {

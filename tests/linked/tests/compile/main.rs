@@ -16,7 +16,7 @@ use linked::engine::linked::compile;
 use linked::numbers::*;
 use order::{first_due, Defect};
 use second::limits::{ARGUMENTS, BINDERS, DEPTH, METAVARIABLES, SIDE_NODES};
-use second::seed::{good_rule, Rng, Rule};
+use second::seed::{good_rule, Rng, Rule, Term};
 
 /// The numbers that a compiler gives.
 const NUMBERS: [u32; 10] = [
@@ -48,130 +48,139 @@ fn reed_compile_does_what_the_second_implementation_does() {
 /// An empty slice's pointer need not point to memory; the sides may be the same memory.
 #[cfg(target_arch = "x86_64")]
 fn compiles_empty_slices() {
-    let symbol = [65_541, 0];
+    let symbol = Term::leaf(5).words();
     for (left, right, number) in [
         (&[][..], &[][..], TABLE_NOT_GOOD),
-        (&symbol, &[], TABLE_NOT_GOOD),
+        (&symbol[..], &[][..], TABLE_NOT_GOOD),
         (&symbol, &symbol, CODE_TABLE_SHORT),
     ] {
         assert_eq!(compile(left, right, &mut []), second::Answer { number, words: 0 });
     }
 }
 
-const fn kind(
-    name: &'static str,
-    numbers: &'static [u32],
-    seeds: u64,
-    calls: fn(&mut Rng) -> Vec<Compile>,
-) -> Kind<Compile> {
-    Kind { name, numbers, seeds, calls }
-}
-
 /// Enough room and one word less.
 const ROOM_AND_NONE: &[u32] = &[DONE, CODE_TABLE_SHORT];
 
 /// First come the slips that, unseen, would spoil the test's own memory later.
-const KINDS: [Kind<Compile>; 47] = [
-    kind("code table one word short", &[CODE_TABLE_SHORT], 10_000, |rng| {
+const KINDS: [Kind<Compile>; 48] = [
+    Kind::new("code table one word short", &[CODE_TABLE_SHORT], 10_000, |rng| {
         one(rng, good_rule, lent::one_short)
     }),
-    kind("code table short", &[CODE_TABLE_SHORT], 5_000, |rng| one(rng, good_rule, lent::short)),
-    kind("code table of the code's length", &[DONE], 10_000, |rng| {
+    Kind::new("code table short", &[CODE_TABLE_SHORT], 5_000, |rng| {
+        one(rng, good_rule, lent::short)
+    }),
+    Kind::new("code table of the code's length", &[DONE], 10_000, |rng| {
         one(rng, good_rule, lent::exactly)
     }),
-    kind("code table with room", &[DONE], 10_000, |rng| one(rng, good_rule, lent::with_room)),
+    Kind::new("code table with room", &[DONE], 10_000, |rng| one(rng, good_rule, lent::with_room)),
     // Accepted.
-    kind("metavariables of one name", ROOM_AND_NONE, 2_000, |rng| both(rng, accepted::same_name)),
-    kind("sixteen metavariables", ROOM_AND_NONE, 2_000, |rng| {
+    Kind::new("metavariables of one name", ROOM_AND_NONE, 2_000, |rng| {
+        both(rng, accepted::same_name)
+    }),
+    Kind::new("sixteen metavariables", ROOM_AND_NONE, 2_000, |rng| {
         both(rng, accepted::sixteen_metavariables)
     }),
-    kind("metavariables repeated", ROOM_AND_NONE, 4_000, |rng| both(rng, accepted::repeated)),
-    kind("under many abstractions", ROOM_AND_NONE, 4_000, |rng| {
+    Kind::new("metavariables repeated", ROOM_AND_NONE, 4_000, |rng| both(rng, accepted::repeated)),
+    Kind::new("under many abstractions", ROOM_AND_NONE, 4_000, |rng| {
         both(rng, accepted::under_abstractions)
     }),
-    kind("bodies in bodies", ROOM_AND_NONE, 4_000, |rng| both(rng, accepted::nested_bodies)),
-    kind("a left side to itself", ROOM_AND_NONE, 2_000, |rng| both(rng, accepted::to_itself)),
-    kind("differences at their widest", ROOM_AND_NONE, 200, |rng| all(rng, limits::differences)),
+    Kind::new("bodies in bodies", ROOM_AND_NONE, 4_000, |rng| both(rng, accepted::nested_bodies)),
+    Kind::new("a left side to itself", ROOM_AND_NONE, 2_000, |rng| both(rng, accepted::to_itself)),
+    Kind::new("differences at their widest", ROOM_AND_NONE, 200, |rng| {
+        all(rng, limits::differences)
+    }),
+    Kind::new("as large as can be", ROOM_AND_NONE, 20, |rng| all(rng, limits::large)),
     // Both sides of each limit.
-    kind("256 nodes", ROOM_AND_NONE, 200, |rng| all(rng, |rng| limits::nodes(rng, SIDE_NODES))),
-    kind("257 nodes", &[TOO_MANY_WORDS], 400, |rng| {
+    Kind::new("256 nodes", ROOM_AND_NONE, 200, |rng| {
+        all(rng, |rng| limits::nodes(rng, SIDE_NODES))
+    }),
+    Kind::new("257 nodes", &[TOO_MANY_WORDS], 400, |rng| {
         refused_all(rng, |rng| limits::nodes(rng, SIDE_NODES + 1))
     }),
-    kind("depth 64", ROOM_AND_NONE, 400, |rng| all(rng, |rng| limits::depth(rng, DEPTH))),
-    kind("depth 65", &[TOO_DEEP], 1_000, |rng| {
+    Kind::new("depth 64", ROOM_AND_NONE, 400, |rng| all(rng, |rng| limits::depth(rng, DEPTH))),
+    Kind::new("depth 65", &[TOO_DEEP], 1_000, |rng| {
         refused_all(rng, |rng| limits::depth(rng, DEPTH + 1))
     }),
-    kind("63 abstractions", ROOM_AND_NONE, 50, |rng| {
+    Kind::new("63 abstractions", ROOM_AND_NONE, 50, |rng| {
         all(rng, |rng| limits::abstractions(rng, BINDERS))
     }),
-    kind("64 abstractions", &[TOO_DEEP], 50, |rng| {
+    Kind::new("64 abstractions", &[TOO_DEEP], 50, |rng| {
         refused_all(rng, |rng| limits::abstractions(rng, BINDERS + 1))
     }),
-    kind("16 metavariables", ROOM_AND_NONE, 400, |rng| {
+    Kind::new("16 metavariables", ROOM_AND_NONE, 400, |rng| {
         all(rng, |rng| limits::metavariables(rng, METAVARIABLES))
     }),
-    kind("17 metavariables", &[TOO_MANY_METAVARIABLES], 1_000, |rng| {
+    Kind::new("17 metavariables", &[TOO_MANY_METAVARIABLES], 1_000, |rng| {
         refused_all(rng, |rng| limits::metavariables(rng, METAVARIABLES + 1))
     }),
-    kind("8 arguments", ROOM_AND_NONE, 200, |rng| {
+    Kind::new("8 arguments", ROOM_AND_NONE, 200, |rng| {
         all(rng, |rng| limits::arguments(rng, ARGUMENTS))
     }),
-    kind("9 arguments", &[TABLE_NOT_GOOD], 200, |rng| {
+    Kind::new("9 arguments", &[TABLE_NOT_GOOD], 200, |rng| {
         refused_all(rng, |rng| limits::arguments(rng, ARGUMENTS + 1))
     }),
-    kind("the highest index", ROOM_AND_NONE, 400, |rng| all(rng, |rng| limits::indices(rng, 1))),
-    kind("an index one too high", &[FREE_VARIABLE], 1_000, |rng| {
+    Kind::new("the highest index", ROOM_AND_NONE, 400, |rng| {
+        all(rng, |rng| limits::indices(rng, 1))
+    }),
+    Kind::new("an index one too high", &[FREE_VARIABLE], 1_000, |rng| {
         refused_all(rng, |rng| limits::indices(rng, 0))
     }),
     // Refused for one thing.
-    kind("1: every cut", &[TABLE_NOT_GOOD], 100, refused::every_cut),
-    kind("1: words after", &[TABLE_NOT_GOOD], 2_000, refused::words_after),
-    kind("1: no such node", &[TABLE_NOT_GOOD], 4_000, refused::no_such_node),
-    kind("1: another count", &[TABLE_NOT_GOOD], 4_000, refused::another_count),
-    kind("2: too many words", &[TOO_MANY_WORDS], 1_000, refused::too_many_words),
-    kind("5: root no symbol", &[LEFT_ROOT_NO_SYMBOL], 1_000, refused::root_no_symbol),
-    kind("6: free variable", &[FREE_VARIABLE], 4_000, refused::free_variable),
-    kind("7: bad arguments", &[ARGUMENTS_NOT_DISTINCT_VARIABLES], 2_000, refused::arguments),
-    kind("8: absent on left", &[ABSENT_ON_LEFT], 4_000, refused::absent_on_left),
-    kind("9: too many metavariables", &[TOO_MANY_METAVARIABLES], 1_000, refused::metavariables),
+    Kind::new("1: every cut", &[TABLE_NOT_GOOD], 100, refused::every_cut),
+    Kind::new("1: words after", &[TABLE_NOT_GOOD], 2_000, refused::words_after),
+    Kind::new("1: no such node", &[TABLE_NOT_GOOD], 4_000, refused::no_such_node),
+    Kind::new("1: another count", &[TABLE_NOT_GOOD], 4_000, refused::another_count),
+    Kind::new("2: too many words", &[TOO_MANY_WORDS], 1_000, refused::too_many_words),
+    Kind::new("5: root no symbol", &[LEFT_ROOT_NO_SYMBOL], 1_000, refused::root_no_symbol),
+    Kind::new("6: free variable", &[FREE_VARIABLE], 4_000, refused::free_variable),
+    Kind::new("7: bad arguments", &[ARGUMENTS_NOT_DISTINCT_VARIABLES], 2_000, refused::arguments),
+    Kind::new("8: absent on left", &[ABSENT_ON_LEFT], 4_000, refused::absent_on_left),
+    Kind::new(
+        "9: too many metavariables",
+        &[TOO_MANY_METAVARIABLES],
+        1_000,
+        refused::metavariables,
+    ),
     // The first of several.
-    kind("left 2 before all else", &[TOO_MANY_WORDS], 200, |rng| {
+    Kind::new("left 2 before all else", &[TOO_MANY_WORDS], 200, |rng| {
         first_due(rng, Defect::LeftTooLong)
     }),
-    kind("left 1 before what follows", &[TABLE_NOT_GOOD], 200, |rng| {
+    Kind::new("left 1 before what follows", &[TABLE_NOT_GOOD], 200, |rng| {
         first_due(rng, Defect::LeftNotGood)
     }),
-    kind("left 3 before what follows", &[TOO_DEEP], 200, |rng| first_due(rng, Defect::LeftTooDeep)),
-    kind("right 2 before what follows", &[TOO_MANY_WORDS], 200, |rng| {
+    Kind::new("left 3 before what follows", &[TOO_DEEP], 200, |rng| {
+        first_due(rng, Defect::LeftTooDeep)
+    }),
+    Kind::new("right 2 before what follows", &[TOO_MANY_WORDS], 200, |rng| {
         first_due(rng, Defect::RightTooLong)
     }),
-    kind("right 1 before what follows", &[TABLE_NOT_GOOD], 200, |rng| {
+    Kind::new("right 1 before what follows", &[TABLE_NOT_GOOD], 200, |rng| {
         first_due(rng, Defect::RightNotGood)
     }),
-    kind("right 3 before what follows", &[TOO_DEEP], 200, |rng| {
+    Kind::new("right 3 before what follows", &[TOO_DEEP], 200, |rng| {
         first_due(rng, Defect::RightTooDeep)
     }),
-    kind("5 before what follows", &[LEFT_ROOT_NO_SYMBOL], 300, |rng| {
+    Kind::new("5 before what follows", &[LEFT_ROOT_NO_SYMBOL], 300, |rng| {
         first_due(rng, Defect::RootNoSymbol)
     }),
-    kind("left 6 before what follows", &[FREE_VARIABLE], 300, |rng| {
+    Kind::new("left 6 before what follows", &[FREE_VARIABLE], 300, |rng| {
         first_due(rng, Defect::FreeOnLeft)
     }),
-    kind("right 6 before what follows", &[FREE_VARIABLE], 300, |rng| {
+    Kind::new("right 6 before what follows", &[FREE_VARIABLE], 300, |rng| {
         first_due(rng, Defect::FreeOnRight)
     }),
-    kind("7 before what follows", &[ARGUMENTS_NOT_DISTINCT_VARIABLES], 400, |rng| {
+    Kind::new("7 before what follows", &[ARGUMENTS_NOT_DISTINCT_VARIABLES], 400, |rng| {
         first_due(rng, Defect::BadArguments)
     }),
-    kind("8 before what follows", &[ABSENT_ON_LEFT], 500, |rng| {
+    Kind::new("8 before what follows", &[ABSENT_ON_LEFT], 500, |rng| {
         first_due(rng, Defect::AbsentOnLeft)
     }),
-    kind("9 before what follows", &[TOO_MANY_METAVARIABLES], 500, |rng| {
+    Kind::new("9 before what follows", &[TOO_MANY_METAVARIABLES], 500, |rng| {
         first_due(rng, Defect::TooManyMetavariables)
     }),
     // Anything.
-    kind("short", &[0, 1, 5, 6, 7, 8, 10], 20_000, anything::short),
-    kind("damaged", &[0, 1, 2, 3, 5, 6, 7, 8, 9, 10], 20_000, anything::damaged),
+    Kind::new("short", &[0, 1, 5, 6, 7, 8, 10], 20_000, anything::short),
+    Kind::new("damaged", &[0, 1, 2, 3, 5, 6, 7, 8, 9, 10], 20_000, anything::damaged),
 ];
 
 /// One call on a rule.

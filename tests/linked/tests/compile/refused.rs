@@ -2,7 +2,7 @@
 
 use linked::compile::Compile;
 use second::limits::{ARGUMENTS, BINDERS, DEPTH, INDEX, METAVARIABLES, NODE_WORDS, SIDE_NODES};
-use second::seed::{good_rule, Rng, Rule, Term};
+use second::seed::{good_rule, Rng, Rule, Term, SIDE_LEAVES};
 
 use crate::accepted::{applied, name, nested_bodies, repeated, small, with_metavariables};
 use crate::lent::at_any_length;
@@ -257,21 +257,14 @@ pub fn metavariables(rng: &mut Rng) -> Vec<Compile> {
 
 /// Up to as many as a left side holds, each of them on the right too.
 fn to_the_last(rng: &mut Rng) -> Compile {
-    let count = rng.between(METAVARIABLES + 1, MOST_METAVARIABLES);
+    let count = rng.between(METAVARIABLES + 1, SIDE_LEAVES);
     let order = rng.distinct(count, count);
     let right = of_metavariables(order.iter().rev().copied());
     let rule = Rule::of(&of_metavariables(order.into_iter()), &right);
     at_any_length(rng, &rule)
 }
 
-/// The most metavariables of a left side: the other nodes are symbols, with eight arguments each.
-const MOST_METAVARIABLES: usize = SIDE_NODES - SIDE_NODES / ARGUMENTS - 1;
-
 /// A term of metavariables with these names and no arguments.
 pub fn of_metavariables(names: impl Iterator<Item = u32>) -> Term {
-    let mut terms: Vec<Term> = names.map(|name| Term::Meta(name, Vec::new())).collect();
-    while terms.len() > 1 {
-        terms = terms.chunks(ARGUMENTS).map(|some| Term::Sym(0, some.to_vec())).collect();
-    }
-    terms.remove(0)
+    Term::over(0, names.map(|name| Term::Meta(name, Vec::new())).collect())
 }
