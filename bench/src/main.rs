@@ -1,4 +1,5 @@
-//! `reed-bench CALL SIDE CASE TIMES`: makes a call so many times, for callgrind to count instructions.
+//! `reed-bench CALL SIDE CASE TIMES`: makes a call so many times, for callgrind to count
+//! instructions.
 //! `reed-bench CALL SIDE CASE stack`: makes it once and prints how many bytes of stack that took.
 //! `reed-bench CALL SIDE CASE words`: prints by how many words the instructions are to be divided.
 //!
