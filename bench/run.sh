@@ -12,16 +12,16 @@ fi
 cargo build --offline --release --quiet -j1
 bench=target/release/reed-bench
 
-# instructions SIDE FILE TIMES: of the whole program
+# instructions CALL SIDE CASE TIMES: of the whole program
 instructions() {
     valgrind --tool=callgrind --callgrind-out-file=/dev/null "$bench" "$@" 2>&1 | awk '/Collected :/ { print $4; found = 1 } END { exit !found }'
 }
 
-# a_call SIDE FILE
+# a_call CALL SIDE CASE
 a_call() {
     local eleven one
-    eleven=$(instructions "$1" "$2" 11)
-    one=$(instructions "$1" "$2" 1)
+    eleven=$(instructions "$@" 11)
+    one=$(instructions "$@" 1)
     echo $(((eleven - one) / 10))
 }
 
@@ -30,22 +30,26 @@ a_word() {
     if [ "$2" = 0 ]; then echo -; else awk -v all="$1" -v words="$2" 'BEGIN { printf "%.2f\n", all / words }'; fi
 }
 
-# name and words of each file
-files=('smallest 0' 'three 3' 'beta 30' 'odd 10235' 'largest 10240' 'refused 10240')
+# tables CALL NOUN CASE...: both tables of a call; NOUN is what a case is
+tables() {
+    local call=$1 noun=$2 case words proved second
+    shift 2
+    echo "| $noun | words | \`reed_$call\` | a word | \`second::$call\` | a word |"
+    echo '|---|--:|--:|--:|--:|--:|'
+    for case in "$@"; do
+        words=$("$bench" "$call" second "$case" words)
+        proved=$(a_call "$call" reedbiscuit "$case")
+        second=$(a_call "$call" second "$case")
+        echo "| $case | $words | $proved | $(a_word "$proved" "$words") | $second | $(a_word "$second" "$words") |"
+    done
+    echo
+    echo "| $noun | stack of \`reed_$call\`, bytes | of \`second::$call\` |"
+    echo '|---|--:|--:|'
+    for case in "$@"; do
+        echo "| $case | $("$bench" "$call" reedbiscuit "$case" stack) | $("$bench" "$call" second "$case" stack) |"
+    done
+}
 
-echo '| file | words | `reed_read` | a word | `second::read` | a word |'
-echo '|---|--:|--:|--:|--:|--:|'
-for line in "${files[@]}"; do
-    read -r file words <<<"$line"
-    proved=$(a_call reedbiscuit "$file")
-    second=$(a_call second "$file")
-    echo "| $file | $words | $proved | $(a_word "$proved" "$words") | $second | $(a_word "$second" "$words") |"
-done
-
+tables read file smallest three beta odd largest refused
 echo
-echo '| file | stack of `reed_read`, bytes | of `second::read` |'
-echo '|---|--:|--:|'
-for line in "${files[@]}"; do
-    read -r file _ <<<"$line"
-    echo "| $file | $("$bench" reedbiscuit "$file" stack) | $("$bench" second "$file" stack) |"
-done
+tables compile rule small beta wide deep checks repeated most growing-32 growing-64 growing-128 growing-256 refused-8 refused-9 refused-10

@@ -79,6 +79,54 @@ struct reed_read_answer {
 struct reed_read_answer reed_read(const uint8_t *file, size_t file_length, uint32_t *left, size_t left_length, uint32_t *right,
                                   size_t right_length, uint32_t *subject, size_t subject_length);
 
+/*
+ * Tables.
+ *
+ * A term in prefix order: each node, then its arguments from left to right. A node is two words, kind x 65,536 + name and the count of its
+ * arguments: variable (kind 0, the name is its index, count 0), symbol (1), metavariable (2) or abstraction (3, name 0, count 1). Index 0
+ * is the nearest abstraction; the root has depth 1. A table is good if it holds exactly one term and no word more.
+ */
+enum {
+    REED_NODE_WORDS = 2,
+    REED_DEPTH = 64,   /* the deepest node of a table */
+    REED_ARGUMENTS = 8 /* the most arguments of a symbol or metavariable */
+};
+
+/* What a call that fills one table gives: REED_DONE and how many words were written to it, or a refusal and 0. */
+struct reed_answer {
+    uint32_t number;
+    uint32_t words;
+};
+
+/*
+ * Rules.
+ *
+ * Left and right side are a table each. A metavariable is known by its name and its count together: 5 with one argument is not 5 with two.
+ */
+enum {
+    REED_SIDE_NODES = 256,   /* the most nodes of a side */
+    REED_SIDE_WORDS = 512,   /* the same in words */
+    REED_METAVARIABLES = 16, /* the most metavariables on the left, each counted once */
+    REED_CODE_WORDS = 4096   /* a code table of this length holds the code of every rule */
+};
+
+/*
+ * Compiles a rule: reads the two sides, puts its code at the front of the code table and leaves the rest of that as it was.
+ *
+ * A refusal leaves all of the code table as it was. Where several are due, it is the first of these:
+ *
+ * REED_TOO_MANY_WORDS, REED_TABLE_NOT_GOOD, REED_TOO_DEEP of the left side, then of the right side: it has more than REED_SIDE_WORDS words,
+ * whatever they are; it is no good table; it has a node deeper than REED_DEPTH.
+ * REED_LEFT_ROOT_NO_SYMBOL.
+ * REED_FREE_VARIABLE: in either side, the arguments of metavariables included, an index has no abstraction above it.
+ * REED_ARGUMENTS_NOT_DISTINCT_VARIABLES: those of some metavariable on the left.
+ * REED_ABSENT_ON_LEFT: a metavariable on the right is none of those on the left, however many these are.
+ * REED_TOO_MANY_METAVARIABLES: over REED_METAVARIABLES on the left.
+ * REED_CODE_TABLE_SHORT: the code has more words than code_length. With a code_length of REED_CODE_WORDS that cannot be.
+ */
+struct reed_answer reed_compile(const uint32_t *left, size_t left_length, const uint32_t *right, size_t right_length, uint32_t *code,
+                                size_t code_length);
+
 #ifdef __cplusplus
 }
 #endif

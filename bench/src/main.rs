@@ -1,20 +1,14 @@
-//! `reed-bench SIDE FILE TIMES`: reads a file so many times, for callgrind to count instructions.
-//! `reed-bench SIDE FILE stack`: reads it once and prints how many bytes of stack that took.
+//! `reed-bench CALL SIDE CASE TIMES`: makes a call so many times, for callgrind to count
+//! instructions.
+//! `reed-bench CALL SIDE CASE stack`: makes it once and prints how many bytes of stack that took.
+//! `reed-bench CALL SIDE CASE words`: prints by how many words the instructions are to be divided.
 //!
-//! SIDE is `reedbiscuit` or `second`, FILE one of `smallest three beta odd largest refused`.
-//! run.sh makes a table of it all.
+//! CALL is `read` or `compile`, SIDE is `reedbiscuit` or `second`; `read.rs` and `compile.rs` know
+//! the cases. run.sh makes tables of it all.
 
+mod compile;
+mod read;
 mod stack;
-
-use std::hint::black_box;
-
-use linked::engine::linked as proved;
-use second::limits::{FILE_SIDE_WORDS, FILE_SUBJECT_WORDS};
-use second::seed::file_of;
-
-/// The numbers of document 01 that come here.
-const DONE: u32 = 0;
-const BAD_FILE: u32 = 17;
 
 #[derive(Clone, Copy)]
 enum Side {
@@ -22,29 +16,27 @@ enum Side {
     Second,
 }
 
-/// A file, and the number that it is read with.
-struct Case {
-    file: Vec<u8>,
-    number: u32,
-}
+/// A call with all that it is lent.
+trait Case {
+    fn named(name: &str) -> Self;
 
-struct Tables {
-    left: Vec<u32>,
-    right: Vec<u32>,
-    subject: Vec<u32>,
+    /// The words that it is about.
+    fn words(&self) -> usize;
+
+    /// Makes the call. The same code is round both sides', so that it costs both the same.
+    fn make(&mut self, side: Side);
 }
 
 fn main() {
     let words: Vec<String> = std::env::args().skip(1).collect();
-    let [side, file, what] = &words[..] else { panic!("usage: reed-bench SIDE FILE TIMES|stack") };
-    let (side, case, mut tables) = (side_of(side), case_of(file), Tables::largest());
-    if what == "stack" {
-        let nothing = stack::written_by(|| ());
-        println!("{}", stack::written_by(|| read(side, &case, &mut tables)) - nothing);
-        return;
-    }
-    for _ in 0..what.parse().expect("TIMES is a number") {
-        read(side, &case, &mut tables);
+    let [call, side, case, what] = &words[..] else {
+        panic!("usage: reed-bench CALL SIDE CASE TIMES|stack|words")
+    };
+    let side = side_of(side);
+    match call.as_str() {
+        "read" => measure(read::File::named(case), side, what),
+        "compile" => measure(compile::LentRule::named(case), side, what),
+        _ => panic!("no such call: {call}"),
     }
 }
 
@@ -56,38 +48,17 @@ fn side_of(name: &str) -> Side {
     }
 }
 
-fn case_of(name: &str) -> Case {
-    let side: Vec<u32> = (0..FILE_SIDE_WORDS as u32).collect();
-    let subject: Vec<u32> = (0..FILE_SUBJECT_WORDS as u32).collect();
-    let mut file = match name {
-        "smallest" => file_of(&[], &[], &[]),
-        "three" => file_of(&side[..1], &side[..1], &subject[..1]),
-        "beta" => include_bytes!("../../examples/beta.rule").to_vec(),
-        "odd" => file_of(&side[1..], &side[3..], &subject[1..]),
-        "largest" | "refused" => file_of(&side, &side, &subject),
-        _ => panic!("no such file: {name}"),
-    };
-    if name == "refused" {
-        file.pop();
+fn measure(mut case: impl Case, side: Side, what: &str) {
+    match what {
+        "words" => println!("{}", case.words()),
+        "stack" => {
+            let nothing = stack::written_by(|| ());
+            println!("{}", stack::written_by(|| case.make(side)) - nothing);
+        }
+        times => {
+            for _ in 0..times.parse().expect("TIMES is a number") {
+                case.make(side);
+            }
+        }
     }
-    Case { file, number: if name == "refused" { BAD_FILE } else { DONE } }
-}
-
-impl Tables {
-    fn largest() -> Tables {
-        let side = vec![0; FILE_SIDE_WORDS];
-        Tables { left: side.clone(), right: side, subject: vec![0; FILE_SUBJECT_WORDS] }
-    }
-}
-
-/// One call. The same code is round both sides', so that it costs both the same.
-#[inline(always)]
-fn read(side: Side, case: &Case, tables: &mut Tables) {
-    let file = black_box(&case.file[..]);
-    let Tables { left, right, subject } = black_box(tables);
-    let answer = match side {
-        Side::Proved => proved::read(file, left, right, subject),
-        Side::Second => second::read(file, left, right, subject),
-    };
-    assert_eq!(black_box(answer).number, case.number);
 }

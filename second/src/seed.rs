@@ -8,6 +8,7 @@
 mod codes;
 mod edges;
 mod files;
+pub mod large;
 mod results;
 mod rng;
 mod rules;
@@ -21,4 +22,4 @@ pub use results::{result_at_limit, ResultCase, RESULT_CASES};
 pub use rng::Rng;
 pub use rules::{break_rule, edge_rule, good_rule, Rule, BREAKS, EDGE_RULES};
 pub use subjects::{matching_subject, nearly, random_subject};
-pub use term::Term;
+pub use term::{Term, SIDE_LEAVES};

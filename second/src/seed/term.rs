@@ -1,6 +1,6 @@
 //! Terms as trees, only to make cases from.
 
-use crate::limits::ARGUMENTS;
+use crate::limits::{ARGUMENTS, SIDE_NODES};
 use crate::tables::{Kind, Node};
 
 /// A term of 004 section 2.
@@ -11,6 +11,9 @@ pub enum Term {
     Meta(u32, Vec<Term>),
     Abst(Box<Term>),
 }
+
+/// The most leaves of a side whose other nodes `Term::over` makes.
+pub const SIDE_LEAVES: usize = SIDE_NODES - SIDE_NODES / ARGUMENTS - 1;
 
 impl Term {
     pub fn abst(body: Term) -> Term {
@@ -38,6 +41,14 @@ impl Term {
         let count = below.min(ARGUMENTS);
         let share = |number| (below + number) / count;
         Term::Sym(name, (0..count).map(|number| Term::of_nodes(name, share(number))).collect())
+    }
+
+    /// A shallow term over these, in their order, with symbols of one name above them.
+    pub fn over(name: u32, mut terms: Vec<Term>) -> Term {
+        while terms.len() > 1 {
+            terms = terms.chunks(ARGUMENTS).map(|some| Term::Sym(name, some.to_vec())).collect();
+        }
+        terms.remove(0)
     }
 
     /// The table that holds this term.

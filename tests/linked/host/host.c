@@ -15,7 +15,7 @@ enum { STANDARD_INPUT, STANDARD_OUTPUT };
 enum { ALL_MADE, CUT_SHORT, TOO_LONG, NO_SUCH_CALL };
 enum { ANSWER_WORDS = 5, AREAS = 4, BATCH_WORDS = 1 << 22 };
 
-enum call { CALL_READ = 1 };
+enum call { CALL_READ = 1, CALL_COMPILE = 2 };
 
 /* Memory that a call is lent, with guards around it. */
 struct area {
@@ -34,16 +34,31 @@ struct frame {
 
 static uint32_t batch[BATCH_WORDS];
 
+/* Sets all words of an answer; counts that a call does not have are 0. */
+static void answer(struct frame *frame, uint32_t number, uint32_t first, uint32_t second, uint32_t third)
+{
+    frame->answer[0] = number;
+    frame->answer[1] = first;
+    frame->answer[2] = second;
+    frame->answer[3] = third;
+    frame->answer[4] = 0;
+}
+
 static void make_read(struct frame *frame, uint32_t *memory[AREAS])
 {
     const struct area *file = &frame->areas[0], *left = &frame->areas[1], *right = &frame->areas[2], *subject = &frame->areas[3];
-    struct reed_read_answer answer =
+    struct reed_read_answer read =
         reed_read((const uint8_t *)memory[0] + file->before, file->length, memory[1] + left->before, left->length,
                   memory[2] + right->before, right->length, memory[3] + subject->before, subject->length);
-    frame->answer[0] = answer.number;
-    frame->answer[1] = answer.left;
-    frame->answer[2] = answer.right;
-    frame->answer[3] = answer.subject;
+    answer(frame, read.number, read.left, read.right, read.subject);
+}
+
+static void make_compile(struct frame *frame, uint32_t *memory[AREAS])
+{
+    const struct area *left = &frame->areas[0], *right = &frame->areas[1], *code = &frame->areas[2];
+    struct reed_answer compiled = reed_compile(memory[0] + left->before, left->length, memory[1] + right->before, right->length,
+                                               memory[2] + code->before, code->length);
+    answer(frame, compiled.number, compiled.words, 0, 0);
 }
 
 /* Makes a frame's call; gives where the next frame begins, or nothing if there is no such call. */
@@ -57,6 +72,9 @@ static uint32_t *make(struct frame *frame)
     switch (frame->call) {
     case CALL_READ:
         make_read(frame, memory);
+        return next;
+    case CALL_COMPILE:
+        make_compile(frame, memory);
         return next;
     default:
         return 0;

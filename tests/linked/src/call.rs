@@ -5,8 +5,11 @@ use crate::guarded::Area;
 /// The number given back, then the call's counts; words that it does not have are 0.
 pub type Answer = [u32; 5];
 
-/// A call: all that it is lent and, once it is made, all that came of it. Two are equal if no
-/// answer, lent word or guard differs.
+/// The name of an area, and what is not as expected there.
+pub type Difference = (&'static str, Option<String>);
+
+/// A call: all that it is lent, and what became of it once the call is made. Two are equal if no
+/// lent word or guard differs.
 pub trait Call: Clone + PartialEq {
     /// By what number host.c knows it.
     const NUMBER: u32;
@@ -19,17 +22,25 @@ pub trait Call: Clone + PartialEq {
         0
     }
 
-    fn answer(&self) -> Answer;
-
-    fn set_answer(&mut self, answer: Answer);
-
     /// Lets the library make the call, in this process.
     #[cfg(target_arch = "x86_64")]
-    fn make_linked(&mut self);
+    fn make_linked(&mut self) -> Answer;
 
     /// Lets the second implementation make the call.
-    fn make_second(&mut self);
+    fn make_second(&mut self) -> Answer;
 
-    /// What is not as expected, for a message.
-    fn difference(&self, expected: &Self) -> Option<String>;
+    /// Each area beside the expected one; what is written to comes first.
+    fn differences(&self, expected: &Self) -> Vec<Difference>;
+}
+
+/// What is not as expected of a call that was made, for a message.
+pub fn difference<C: Call>(made: (&C, Answer), expected: (&C, Answer)) -> Option<String> {
+    if made.1 != expected.1 {
+        return Some(format!("answer {:?} and not {:?}", made.1, expected.1));
+    }
+    if made.0 == expected.0 {
+        return None;
+    }
+    let areas = made.0.differences(expected.0).into_iter();
+    areas.filter_map(|(area, what)| Some(format!("{area}: {}", what?))).next()
 }

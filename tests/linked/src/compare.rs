@@ -6,18 +6,29 @@ use std::ops::Range;
 
 use second::seed::Rng;
 
-use crate::call::Call;
+use crate::call::{difference, Call};
 use crate::engine::Engine;
 
 /// One way to make calls.
 pub struct Kind<C> {
-    pub name: &'static str,
+    name: &'static str,
     /// The numbers that the documents give to such calls: each must come, and no other.
-    pub numbers: &'static [u32],
+    numbers: &'static [u32],
     /// How many seeds.
-    pub seeds: u64,
+    seeds: u64,
     /// The calls of a seed.
-    pub calls: fn(&mut Rng) -> Vec<C>,
+    calls: fn(&mut Rng) -> Vec<C>,
+}
+
+impl<C> Kind<C> {
+    pub const fn new(
+        name: &'static str,
+        numbers: &'static [u32],
+        seeds: u64,
+        calls: fn(&mut Rng) -> Vec<C>,
+    ) -> Kind<C> {
+        Kind { name, numbers, seeds, calls }
+    }
 }
 
 /// How often each number came.
@@ -74,18 +85,17 @@ fn compare_cases<C: Call>(
     numbers: &mut Numbers,
 ) {
     let mut calls: Vec<C> = cases.iter().map(|case| case.call.clone()).collect();
-    if let Err(why) = engine.make(&mut calls) {
+    let answers = engine.make(&mut calls).unwrap_or_else(|why| {
         let (first, last) = (cases[0].seed, cases[cases.len() - 1].seed);
         panic!("'{kind}', one of the seeds {first} to {last}: {why}");
-    }
-    for (call, mut case) in calls.iter().zip(cases.drain(..)) {
-        case.call.make_second();
-        if *call != case.call {
-            let Case { seed, place, call: expected } = case;
-            let what = call.difference(&expected).unwrap_or_default();
+    });
+    for ((call, answer), mut case) in calls.iter().zip(answers).zip(cases.drain(..)) {
+        let expected = case.call.make_second();
+        if let Some(what) = difference((call, answer), (&case.call, expected)) {
+            let Case { seed, place, .. } = case;
             panic!("'{kind}', seed {seed}, call {place}: {what}\n(SEED_FROM={seed} repeats it)");
         }
-        *numbers.entry(call.answer()[0]).or_default() += 1;
+        *numbers.entry(answer[0]).or_default() += 1;
     }
 }
 
@@ -102,6 +112,11 @@ fn seeds(count: u64) -> Range<u64> {
 impl Tally {
     pub fn calls(&self) -> usize {
         self.kinds.iter().flat_map(|(_, numbers)| numbers.values()).sum()
+    }
+
+    /// How many calls gave this number.
+    pub fn times(&self, number: u32) -> usize {
+        self.kinds.iter().filter_map(|(_, numbers)| numbers.get(&number)).sum()
     }
 }
 

@@ -7,7 +7,7 @@ pub mod linked;
 
 use std::io;
 
-use crate::call::Call;
+use crate::call::{Answer, Call};
 use host::Host;
 
 pub enum Engine {
@@ -36,14 +36,11 @@ impl Engine {
         }
     }
 
-    /// Makes these calls; an error if the host does not come back from one.
-    pub fn make<C: Call>(&mut self, calls: &mut [C]) -> io::Result<()> {
+    /// Makes these calls and gives their answers; an error if the host does not come back from one.
+    pub fn make<C: Call>(&mut self, calls: &mut [C]) -> io::Result<Vec<Answer>> {
         match self {
             #[cfg(target_arch = "x86_64")]
-            Engine::Linked => {
-                calls.iter_mut().for_each(C::make_linked);
-                Ok(())
-            }
+            Engine::Linked => Ok(calls.iter_mut().map(C::make_linked).collect()),
             Engine::Host(host) => host.make(calls),
         }
     }

@@ -2,12 +2,14 @@
 //!
 //! `guarded` is the memory that a call is lent, `call` what every call has in common, and `engine`
 //! reaches the library; `compare` makes seeded calls on both sides. Each call of the library has a
-//! module of its own.
+//! module of its own. `numbers` are those that it gives back.
 
 #![deny(unsafe_code)]
 
 pub mod call;
 pub mod compare;
+pub mod compile;
 pub mod engine;
 pub mod guarded;
+pub mod numbers;
 pub mod read;

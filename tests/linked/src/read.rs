@@ -3,7 +3,7 @@
 use second::seed::Rng;
 use second::ReadAnswer;
 
-use crate::call::{Answer, Call};
+use crate::call::{Answer, Call, Difference};
 #[cfg(target_arch = "x86_64")]
 use crate::engine::linked;
 use crate::guarded::{Area, Guarded};
@@ -16,7 +16,6 @@ pub struct Read {
     left: Guarded<u32>,
     right: Guarded<u32>,
     subject: Guarded<u32>,
-    answer: Answer,
 }
 
 impl Read {
@@ -25,14 +24,13 @@ impl Read {
         // No reader writes more words than there are in the file.
         let reach = file.len() / 4;
         let [left, right, subject] = lent.map(|length| Guarded::noise(rng, length, reach));
-        let unanswered = [u32::MAX, u32::MAX, u32::MAX, u32::MAX, 0];
-        Read { file: Guarded::holding(rng, file), left, right, subject, answer: unanswered }
+        Read { file: Guarded::holding(rng, file), left, right, subject }
     }
 
-    fn make(&mut self, read: Reader) {
+    fn make(&mut self, read: Reader) -> Answer {
         let tables = (self.left.part_mut(), self.right.part_mut(), self.subject.part_mut());
         let answer = read(self.file.part(), tables.0, tables.1, tables.2);
-        self.answer = [answer.number, answer.left, answer.right, answer.subject, 0];
+        [answer.number, answer.left, answer.right, answer.subject, 0]
     }
 }
 
@@ -43,33 +41,21 @@ impl Call for Read {
         vec![&mut self.file, &mut self.left, &mut self.right, &mut self.subject]
     }
 
-    fn answer(&self) -> Answer {
-        self.answer
-    }
-
-    fn set_answer(&mut self, answer: Answer) {
-        self.answer = answer;
-    }
-
     #[cfg(target_arch = "x86_64")]
-    fn make_linked(&mut self) {
-        self.make(linked::read);
+    fn make_linked(&mut self) -> Answer {
+        self.make(linked::read)
     }
 
-    fn make_second(&mut self) {
-        self.make(second::read);
+    fn make_second(&mut self) -> Answer {
+        self.make(second::read)
     }
 
-    fn difference(&self, expected: &Read) -> Option<String> {
-        if self.answer != expected.answer {
-            return Some(format!("answer {:?} and not {:?}", self.answer, expected.answer));
-        }
-        let areas = [
+    fn differences(&self, expected: &Read) -> Vec<Difference> {
+        vec![
             ("left", self.left.difference(&expected.left)),
             ("right", self.right.difference(&expected.right)),
             ("subject", self.subject.difference(&expected.subject)),
             ("file", self.file.difference(&expected.file)),
-        ];
-        areas.into_iter().find_map(|(name, what)| Some(format!("{name}: {}", what?)))
+        ]
     }
 }

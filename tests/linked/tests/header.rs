@@ -1,6 +1,6 @@
 //! include/reedbiscuit.h says document 01's numbers.
 
-use second::limits::{FILE_BYTES, FILE_SIDE_WORDS, FILE_SUBJECT_WORDS, FILE_VERSION};
+use second::limits::*;
 
 const HEADER: &str = include_str!("../../../include/reedbiscuit.h");
 
@@ -29,6 +29,13 @@ fn the_limits_are_those_of_the_second_implementation() {
         ("REED_FILE_SIDE_WORDS", FILE_SIDE_WORDS),
         ("REED_FILE_SUBJECT_WORDS", FILE_SUBJECT_WORDS),
         ("REED_FILE_BYTES", FILE_BYTES),
+        ("REED_NODE_WORDS", NODE_WORDS),
+        ("REED_DEPTH", DEPTH),
+        ("REED_ARGUMENTS", ARGUMENTS),
+        ("REED_SIDE_NODES", SIDE_NODES),
+        ("REED_SIDE_WORDS", NODE_WORDS * SIDE_NODES),
+        ("REED_METAVARIABLES", METAVARIABLES),
+        ("REED_CODE_WORDS", CODE_WORDS),
     ];
     assert_eq!(constants()[18..], limits);
 }

@@ -2,15 +2,12 @@
 //! number and counts, the same words, and guards and file left alone.
 
 use linked::compare::{compare, Kind};
+use linked::numbers::{BAD_FILE, DONE};
 use linked::read::Read;
 use second::limits::{FILE_SIDE_WORDS, FILE_SUBJECT_WORDS, FILE_VERSION, FILE_WORD_BYTES};
 use second::seed::{damaged_file, edge_file, file_of, good_rule, random_subject, Rng};
 #[cfg(target_arch = "x86_64")]
 use second::ReadAnswer;
-
-/// Document 01's numbers for a reader.
-const DONE: u32 = 0;
-const BAD_FILE: u32 = 17;
 
 const LIMITS: [usize; 3] = [FILE_SIDE_WORDS, FILE_SIDE_WORDS, FILE_SUBJECT_WORDS];
 
@@ -34,37 +31,28 @@ fn reads_empty_slices() {
     }
 }
 
-const fn kind(
-    name: &'static str,
-    numbers: &'static [u32],
-    seeds: u64,
-    calls: fn(&mut Rng) -> Vec<Read>,
-) -> Kind<Read> {
-    Kind { name, numbers, seeds, calls }
-}
-
 /// First come the slips that, unseen, would spoil the test's own memory later.
 const KINDS: [Kind<Read>; 20] = [
-    kind("table lent one word short", &[BAD_FILE], 10_000, lent_one_short),
-    kind("table lent one word short of a limit", &[BAD_FILE], 60, lent_short_of_limit),
-    kind("no tables lent, none in the file", &[DONE], 100, smallest),
-    kind("tables lent with the words exactly", &[DONE], 10_000, lent_exactly),
-    kind("tables lent with room", &[DONE], 10_000, lent_with_room),
-    kind("tables lent at any length", &[DONE, BAD_FILE], 10_000, lent_at_any_length),
-    kind("words of any value", &[DONE], 10_000, any_words),
-    kind("a count at its limit", &[DONE], 150, at_limit),
-    kind("a count over its limit, with room", &[BAD_FILE], 150, over_limit),
-    kind("the longest file", &[DONE], 20, longest),
-    kind("the longest file, cut or lengthened", &[BAD_FILE], 20, longest_damaged),
-    kind("a count far too high", &[BAD_FILE], 1_000, count_far_too_high),
-    kind("every cut", &[BAD_FILE], 250, every_cut),
-    kind("every byte changed", &[DONE, BAD_FILE], 250, every_byte_changed),
-    kind("every other version", &[BAD_FILE], 40, every_other_version),
-    kind("bytes after the end", &[BAD_FILE], 10_000, bytes_after),
-    kind("little-endian", &[BAD_FILE], 10_000, little_endian),
-    kind("damaged", &[DONE, BAD_FILE], 30_000, damaged),
-    kind("noise", &[BAD_FILE], 10_000, noise),
-    kind("mostly zeros", &[DONE, BAD_FILE], 20_000, mostly_zeros),
+    Kind::new("table lent one word short", &[BAD_FILE], 10_000, lent_one_short),
+    Kind::new("table lent one word short of a limit", &[BAD_FILE], 60, lent_short_of_limit),
+    Kind::new("no tables lent, none in the file", &[DONE], 100, smallest),
+    Kind::new("tables lent with the words exactly", &[DONE], 10_000, lent_exactly),
+    Kind::new("tables lent with room", &[DONE], 10_000, lent_with_room),
+    Kind::new("tables lent at any length", &[DONE, BAD_FILE], 10_000, lent_at_any_length),
+    Kind::new("words of any value", &[DONE], 10_000, any_words),
+    Kind::new("a count at its limit", &[DONE], 150, at_limit),
+    Kind::new("a count over its limit, with room", &[BAD_FILE], 150, over_limit),
+    Kind::new("the longest file", &[DONE], 20, longest),
+    Kind::new("the longest file, cut or lengthened", &[BAD_FILE], 20, longest_damaged),
+    Kind::new("a count far too high", &[BAD_FILE], 1_000, count_far_too_high),
+    Kind::new("every cut", &[BAD_FILE], 250, every_cut),
+    Kind::new("every byte changed", &[DONE, BAD_FILE], 250, every_byte_changed),
+    Kind::new("every other version", &[BAD_FILE], 40, every_other_version),
+    Kind::new("bytes after the end", &[BAD_FILE], 10_000, bytes_after),
+    Kind::new("little-endian", &[BAD_FILE], 10_000, little_endian),
+    Kind::new("damaged", &[DONE, BAD_FILE], 30_000, damaged),
+    Kind::new("noise", &[BAD_FILE], 10_000, noise),
+    Kind::new("mostly zeros", &[DONE, BAD_FILE], 20_000, mostly_zeros),
 ];
 
 /// The tables of a file.

@@ -9,11 +9,13 @@ const WORD: usize = <u32 as Unit>::BYTES;
 const AREAS: usize = 4;
 const ANSWER_WORDS: usize = std::mem::size_of::<Answer>() / WORD;
 const ANSWER_FROM: usize = 2 * WORD;
+/// What stands there until the host has answered.
+const UNANSWERED: Answer = [u32::MAX; ANSWER_WORDS];
 const MEMORY_FROM: usize = (2 + ANSWER_WORDS + 3 * AREAS) * WORD;
 
 /// Appends a call's frame.
 pub fn put<C: Call>(call: &mut C, bytes: &mut Vec<u8>) {
-    let head = [C::NUMBER, call.argument()].into_iter().chain(call.answer());
+    let head = [C::NUMBER, call.argument()].into_iter().chain(UNANSWERED);
     head.for_each(|word| word.put(bytes));
     let areas = call.areas();
     assert!(areas.len() <= AREAS);
@@ -30,20 +32,19 @@ pub fn put<C: Call>(call: &mut C, bytes: &mut Vec<u8>) {
     }
 }
 
-/// Takes a call's answer and its memory from its frame; gives the bytes after that.
-pub fn take<'a>(call: &mut impl Call, bytes: &'a [u8]) -> &'a [u8] {
+/// Takes a call's memory from its frame and gives its answer; the bytes after the frame are left.
+pub fn take(call: &mut impl Call, bytes: &mut &[u8]) -> Answer {
     let mut answer = Answer::default();
     for (word, bytes) in answer.iter_mut().zip(bytes[ANSWER_FROM..].chunks_exact(WORD)) {
         *word = u32::of_bytes(bytes);
     }
-    call.set_answer(answer);
-    let mut rest = &bytes[MEMORY_FROM..];
+    *bytes = &bytes[MEMORY_FROM..];
     for area in call.areas() {
-        let (memory, after) = rest.split_at(words(area) * WORD);
+        let (memory, after) = bytes.split_at(words(area) * WORD);
         area.set(memory);
-        rest = after;
+        *bytes = after;
     }
-    rest
+    answer
 }
 
 /// Words that an area's memory takes in a frame.

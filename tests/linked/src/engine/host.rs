@@ -4,7 +4,7 @@ use std::io::{self, Read, Write};
 use std::process::{Child, ChildStdin, ChildStdout, Command, Stdio};
 
 use super::frame;
-use crate::call::Call;
+use crate::call::{Answer, Call};
 use crate::guarded::Unit;
 
 /// A batch is closed once it has so many bytes; host.c has room for one call more.
@@ -29,7 +29,8 @@ impl Host {
 
     /// Makes the calls, a batch at a time. The host reads a whole batch before it writes one, so
     /// neither waits for the other to read.
-    pub fn make<C: Call>(&mut self, calls: &mut [C]) -> io::Result<()> {
+    pub fn make<C: Call>(&mut self, calls: &mut [C]) -> io::Result<Vec<Answer>> {
+        let mut answers = Vec::with_capacity(calls.len());
         let mut rest = calls;
         while !rest.is_empty() {
             let mut batch = Vec::with_capacity(2 * BATCH_BYTES);
@@ -39,10 +40,11 @@ impl Host {
             });
             let (sent, later) = rest.split_at_mut(fits.map_or(rest.len(), |last| last + 1));
             self.exchange(&mut batch).map_err(|why| self.end(why))?;
-            sent.iter_mut().fold(&batch[..], |bytes, call| frame::take(call, bytes));
+            let mut bytes = &batch[..];
+            answers.extend(sent.iter_mut().map(|call| frame::take(call, &mut bytes)));
             rest = later;
         }
-        Ok(())
+        Ok(answers)
     }
 
     /// Sends a batch and waits for it to come back.

@@ -1,7 +1,7 @@
 //! The library linked into this process: include/reedbiscuit.h, call by call, over slices.
 #![allow(unsafe_code)]
 
-use second::ReadAnswer;
+use second::{Answer, ReadAnswer};
 
 #[repr(C)]
 struct ReedReadAnswer {
@@ -9,6 +9,12 @@ struct ReedReadAnswer {
     left: u32,
     right: u32,
     subject: u32,
+}
+
+#[repr(C)]
+struct ReedAnswer {
+    number: u32,
+    words: u32,
 }
 
 extern "C" {
@@ -22,6 +28,15 @@ extern "C" {
         subject: *mut u32,
         subject_length: usize,
     ) -> ReedReadAnswer;
+
+    fn reed_compile(
+        left: *const u32,
+        left_length: usize,
+        right: *const u32,
+        right_length: usize,
+        code: *mut u32,
+        code_length: usize,
+    ) -> ReedAnswer;
 }
 
 #[inline]
@@ -41,4 +56,20 @@ pub fn read(file: &[u8], left: &mut [u32], right: &mut [u32], subject: &mut [u32
     };
     let ReedReadAnswer { number, left, right, subject } = answer;
     ReadAnswer { number, left, right, subject }
+}
+
+#[inline]
+pub fn compile(left: &[u32], right: &[u32], code: &mut [u32]) -> Answer {
+    // Sound: as for `read`.
+    let ReedAnswer { number, words } = unsafe {
+        reed_compile(
+            left.as_ptr(),
+            left.len(),
+            right.as_ptr(),
+            right.len(),
+            code.as_mut_ptr(),
+            code.len(),
+        )
+    };
+    Answer { number, words }
 }

@@ -1,0 +1,88 @@
+//! Rules to compile.
+
+use std::hint::black_box;
+
+use linked::engine::linked as proved;
+use linked::numbers::{ABSENT_ON_LEFT, CODE_TABLE_SHORT, DONE, TOO_MANY_METAVARIABLES};
+use second::limits::CODE_WORDS;
+use second::seed::{large, Rule, Term};
+use Term::{Meta, Sym, Var};
+
+use crate::{Case, Side};
+
+/// A rule, a code table, and what compiling it gives.
+pub struct LentRule {
+    rule: Rule,
+    code: Vec<u32>,
+    number: u32,
+    words: usize,
+}
+
+impl Case for LentRule {
+    fn named(name: &str) -> LentRule {
+        let rule = rule_of(name);
+        let mut code = vec![0; CODE_WORDS];
+        let words = second::compile(&rule.left, &rule.right, &mut code).words as usize;
+        let number = number_of(name);
+        if number != CODE_TABLE_SHORT {
+            return LentRule { rule, code, number, words };
+        }
+        code.truncate(words - 1);
+        LentRule { rule, code, number, words: 0 }
+    }
+
+    fn words(&self) -> usize {
+        self.words
+    }
+
+    #[inline(always)]
+    fn make(&mut self, side: Side) {
+        let (left, right) = black_box((&self.rule.left[..], &self.rule.right[..]));
+        let code = black_box(&mut self.code[..]);
+        let answer = match side {
+            Side::Proved => proved::compile(left, right, code),
+            Side::Second => second::compile(left, right, code),
+        };
+        let answer = black_box(answer);
+        assert_eq!((answer.number, answer.words as usize), (self.number, self.words));
+    }
+}
+
+fn number_of(name: &str) -> u32 {
+    match name {
+        "refused-8" => ABSENT_ON_LEFT,
+        "refused-9" => TOO_MANY_METAVARIABLES,
+        "refused-10" => CODE_TABLE_SHORT,
+        _ => DONE,
+    }
+}
+
+fn rule_of(name: &str) -> Rule {
+    match name {
+        "small" => Rule::of(&Sym(1, vec![nullary(1)]), &nullary(1)),
+        "beta" => beta(),
+        "wide" => large::wide(),
+        "deep" => large::deep(),
+        "checks" => large::checks(),
+        "repeated" => large::repeated(),
+        "most" | "refused-10" => large::most_words(),
+        "refused-8" => large::many_metavariables(true),
+        "refused-9" => large::many_metavariables(false),
+        _ => match name.strip_prefix("growing-").and_then(|nodes| nodes.parse().ok()) {
+            Some(nodes) => large::growing(nodes),
+            None => panic!("no such rule: {name}"),
+        },
+    }
+}
+
+/// Rule B of document 01.
+fn beta() -> Rule {
+    let body = Term::abst(Meta(1, vec![Var(0)]));
+    let left = Sym(1, vec![Sym(2, vec![body]), nullary(2)]);
+    Rule::of(&left, &Meta(1, vec![nullary(2)]))
+}
+
+/// A metavariable without arguments.
+fn nullary(name: u32) -> Term {
+    Meta(name, Vec::new())
+}

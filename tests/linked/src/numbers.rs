@@ -1,0 +1,13 @@
+//! Document 01's numbers, as tests expect them.
+
+pub const DONE: u32 = 0;
+pub const TABLE_NOT_GOOD: u32 = 1;
+pub const TOO_MANY_WORDS: u32 = 2;
+pub const TOO_DEEP: u32 = 3;
+pub const LEFT_ROOT_NO_SYMBOL: u32 = 5;
+pub const FREE_VARIABLE: u32 = 6;
+pub const ARGUMENTS_NOT_DISTINCT_VARIABLES: u32 = 7;
+pub const ABSENT_ON_LEFT: u32 = 8;
+pub const TOO_MANY_METAVARIABLES: u32 = 9;
+pub const CODE_TABLE_SHORT: u32 = 10;
+pub const BAD_FILE: u32 = 17;
