@@ -2,17 +2,29 @@
 use Prim.Native.Nat.{ℕ}
 use mathlib.Core.List.{List}
 use Rattle.documents.specs.Numbers.{numberOf}
-use Rattle.documents.specs.Calls.{ReadAnswer}
+use Rattle.documents.specs.Calls.{ReadAnswer, CompileAnswer}
 use Rattle.reader.specs.declared.Answer.{Answer}
-use Rattle.reader.specs.declared.Answer.the-variants.{Words, Refused}
+use Rattle.reader.specs.declared.Answer.the-variants as read
+use Rattle.compiler.specs.declared.Compiled.{Compiled}
+use Rattle.compiler.specs.declared.Compiled.the-variants as compiled
 use Rattle.reedbiscuit.specs.declared.ReedReadAnswer.{ReedReadAnswer}
+use Rattle.reedbiscuit.specs.declared.ReedAnswer.{ReedAnswer}
 
 -- 01's number of the reader's answer
 abbrev pub readNumber : Answer → ℕ
-readNumber (Words l r s) = 0
-readNumber (Refused w) = numberOf w
+readNumber (read.Words l r s) = 0
+readNumber (read.Refused w) = numberOf w
 
 -- the numbers of a struct, and the lent tables afterwards
 abbrev pub readGiven : ReedReadAnswer → List ℕ → List ℕ → List ℕ → ReadAnswer
 readGiven a left right subject =
     record { number = a .number; leftWords = a .left; rightWords = a .right; subjectWords = a .subject; left = left; right = right; subject = subject }
+
+-- 01's number of the compiler's answer
+abbrev pub compileNumber : Compiled → ℕ
+compileNumber (compiled.Words n) = 0
+compileNumber (compiled.Refused w) = numberOf w
+
+-- the numbers of a struct, and the lent code table afterwards
+abbrev pub compileGiven : ReedAnswer → List ℕ → CompileAnswer
+compileGiven a code = record { number = a .number; words = a .words; code = code }

@@ -1,8 +1,9 @@
 // The C interface: each call hands its slices on to the crate that does the work, and gives the answer back as 01's numbers.
+use compiler::Compiled;
 use reader::Answer;
 ghost use mathlib.Core.Path.{_≡_};
-ghost use Rattle.documents.specs.Calls.{readCall};
-ghost use Rattle.reedbiscuit.specs.Answers.{readNumber, readGiven};
+ghost use Rattle.documents.specs.Calls.{readCall, compileCall};
+ghost use Rattle.reedbiscuit.specs.Answers.{readNumber, readGiven, compileNumber, compileGiven};
 
 // 01's number where nothing is refused.
 const DONE: u32 = 0;
@@ -14,6 +15,13 @@ pub struct ReedReadAnswer {
     pub left: u32,
     pub right: u32,
     pub subject: u32,
+}
+
+// The C header calls it reed_answer: of the calls that write one table.
+#[repr(C)]
+pub struct ReedAnswer {
+    pub number: u32,
+    pub words: u32,
 }
 
 // Document 01's reader: the words of a file's three tables at the front of the lent ones.
@@ -48,6 +56,34 @@ fn read_number(answer: Answer) -> u32
     ensures { λ r. ⌜ r ≡ readNumber answer ⌝ }
 {
     let Answer::Refused(why) = answer else {
+        return DONE;
+    };
+    documents::number(why)
+}
+
+// Document 01's compile: a rule's code at the front of the lent code table.
+#[no_mangle]
+pub extern "C" fn reed_compile(left: &[u32], right: &[u32], code: &mut [u32]) -> ReedAnswer
+    ensures { λ r. ⌜ compileGiven r (now (code .exit)) ≡ compileCall (now (left .entry)) (now (right .entry)) (now (code .entry)) ⌝ }
+{
+    let answer = compiler::compile(left, right, code);
+    let Compiled::Words(words) = answer else {
+        return ReedAnswer {
+            number: compile_number(answer),
+            words: 0,
+        };
+    };
+    ReedAnswer {
+        number: DONE,
+        words,
+    }
+}
+
+// 01's number of the compiler's answer.
+fn compile_number(answer: Compiled) -> u32
+    ensures { λ r. ⌜ r ≡ compileNumber answer ⌝ }
+{
+    let Compiled::Refused(why) = answer else {
         return DONE;
     };
     documents::number(why)
