@@ -4,13 +4,12 @@ use mathlib.Core.Path.{_≡_, refl, sym, ap, ap₂, _∙_}
 use Prim.Native.Nat.{ℕ, _-_, _≤_, _<_}
 use native.Mathlib.Omega.{arith}
 use mathlib.Core.Bool.{Bool, true, false, _&&_, cond}
-use mathlib.Core.List.{List, [], _∷_, _++_}
-use lib.Dec.{T, leb}
+use mathlib.Core.List.{List}
+use lib.Dec.{leb}
 use lib.ListN.{length, take, drop, length-drop}
 use lib.Seq.{take-all}
 use borrow.Author.Tests.{le-leb, lt-leb}
 use Rattle.documents.specs.declared.Refusal.{Refusal}
-use Rattle.documents.specs.declared.Refusal.the-variants as refusal
 use Rattle.documents.specs.Limits.{sideLimit, metavariableLimit, codeLimit}
 use Rattle.documents.specs.Terms.{Term}
 use Rattle.documents.specs.Tables.{nodes}
@@ -19,6 +18,7 @@ use Rattle.documents.specs.Instructions.{words}
 use Rattle.documents.specs.Translation.{symbolTable, compile}
 use Rattle.documents.specs.Numbers.{Answer, answered, refused, unless, with, tableIn, Rule, rule, ruleIn, codeFor}
 use Rattle.documents.specs.Calls.{atFront, compileAnswer, compileCall}
+use Rattle.documents.specs.declared.Refusal.the-variants as refusal
 use Rattle.documents.proofs.Lists.{never, on, T-of, of-and}
 use Rattle.documents.proofs.Tables.{length-tableOf}
 use Rattle.documents.proofs.Numbers.{unless-is, with-is, tableIn-held, Held, crs-of-conditions, Accepted, accepted-ruleIn}
@@ -26,10 +26,9 @@ use Rattle.kahrs.proofs.Simple.{Simple, simple-of, below-of-closed}
 use Rattle.compiled.specs.Length.{codeLength}
 use Rattle.compiled.proofs.Length.{length-accepted}
 use Rattle.compiled.proofs.WordCount.{compiled-fits}
-use Rattle.tables.specs.declared.accept.Sized.{Sized}
-use Rattle.tables.specs.declared.accept.Sized.the-variants as table
 use Rattle.tables.specs.Answers.{sized}
 use Rattle.tables.specs.Parts.{front, Begins}
+use Rattle.tables.specs.declared.accept.Sized.the-variants as table
 use Rattle.tables.proofs.Accepted.{AcceptedTable, accepted-table}
 use Rattle.symbols.specs.Rows.{rowsIn}
 use Rattle.symbols.proofs.Whole.{Made}
@@ -59,23 +58,18 @@ module _ {left : List ℕ} {n : ℕ} (a : AcceptedTable sideLimit left n) where
     sides-no-symbol e = rw (a .term, b .term, e) refl
 
     module _ (s : isSymbol (front left) ≡ true) where
-      pub sides-left-open : closed (front left) ≡ false → sidesAnswer (sidesIn left right) ≡ table.Refused refusal.FreeVariable
+      pub sides-open : closed (front left) && closed (front right) ≡ false → sidesAnswer (sidesIn left right) ≡ table.Refused refusal.FreeVariable
       unfolding sidesIn
-      sides-left-open e = rw (a .term, b .term, s, e) refl
+      sides-open e = rw (a .term, b .term, s, e) refl
 
-      module _ (k : closed (front left) ≡ true) where
-        pub sides-right-open : closed (front right) ≡ false → sidesAnswer (sidesIn left right) ≡ table.Refused refusal.FreeVariable
+      module _ (k : closed (front left) && closed (front right) ≡ true) where
+        pub sides-not-simple : simple (front left) ≡ false → sidesAnswer (sidesIn left right) ≡ table.Refused refusal.ArgumentsNotDistinctVariables
         unfolding sidesIn
-        sides-right-open e = rw (a .term, b .term, s, k, e) refl
+        sides-not-simple e = rw (a .term, b .term, s, k, e) refl
 
-        module _ (j : closed (front right) ≡ true) where
-          pub sides-not-simple : simple (front left) ≡ false → sidesAnswer (sidesIn left right) ≡ table.Refused refusal.ArgumentsNotDistinctVariables
-          unfolding sidesIn
-          sides-not-simple e = rw (a .term, b .term, s, k, j, e) refl
-
-          pub sides-simple : simple (front left) ≡ true → sidesAnswer (sidesIn left right) ≡ table.Nodes n
-          unfolding sidesIn
-          sides-simple e = rw (a .term, b .term, s, k, j, e) (ap table.Nodes (sym (a .count)))
+        pub sides-simple : simple (front left) ≡ true → sidesAnswer (sidesIn left right) ≡ table.Nodes n
+        unfolding sidesIn
+        sides-simple e = rw (a .term, b .term, s, k, e) (ap table.Nodes (sym (a .count)))
 
 -- ---- Sides that are accepted so far
 

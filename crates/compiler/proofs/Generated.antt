@@ -1,6 +1,6 @@
 -- The code of a rule is its left side's and then its right side's, with the rows of the symbol table and as many SETs to come as there are rows.
-use mathlib.Core.Path.{_≡_, sym, _∙_}
-use Prim.Native.Nat.{ℕ, _/_, _≤_}
+use mathlib.Core.Path.{_≡_, sym}
+use Prim.Native.Nat.{ℕ, _/_}
 use native.Mathlib.Omega.{arith}
 use mathlib.Core.List.{List, _++_}
 use lib.ListN.{length}
@@ -17,7 +17,7 @@ use Rattle.generator.specs.Written.{Fits}
 use Rattle.generator.specs.Matching.{leftCode, Asked, Done}
 use Rattle.generator.specs.Building.{rightCode, Ready, Builds}
 use Rattle.generator.proofs.Written.{words-⧺, Writing, writing-from, writing-on, writing-last, writing-as, fits-first}
-use Rattle.compiler.specs.Answers.{Sides, Generating}
+use Rattle.compiler.specs.Answers.{Generating}
 use Rattle.compiler.proofs.Called.{left-simple, right-short}
 
 module _ {left right rows code : List ℕ} (g : Generating left right rows code) where

@@ -1,7 +1,7 @@
 -- What the compiler's answers stand for (document 01, 'Numbers given back': compile).
 use mathlib.Core.Path.{_≡_}
 use Prim.Native.Nat.{ℕ, _≤_, _<_}
-use mathlib.Core.Bool.{true, _&&_, cond}
+use mathlib.Core.Bool.{_&&_, cond}
 use mathlib.Core.List.{List}
 use lib.ListN.{length}
 use Rattle.documents.specs.declared.Refusal.the-variants.{LeftRootNoSymbol, FreeVariable, ArgumentsNotDistinctVariables, MetavariableAbsentOnLeft, TooManyMetavariables}
@@ -15,8 +15,8 @@ use Rattle.documents.specs.Numbers.{numberOf, Answer, answered, refused, unless
 use Rattle.documents.specs.Calls.{CompileAnswer}
 use Rattle.documents.proofs.Numbers.{Held}
 use Rattle.tables.specs.declared.accept.Sized.{Sized}
-use Rattle.tables.specs.declared.accept.Sized.the-variants as sized
 use Rattle.tables.specs.Parts.{front, Begins}
+use Rattle.tables.specs.declared.accept.Sized.the-variants as sized
 use Rattle.symbols.specs.Rows.{rowsIn}
 use Rattle.generator.specs.Written.{Fits}
 use Rattle.compiler.specs.declared.Compiled.{Compiled}

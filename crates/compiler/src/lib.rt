@@ -2,16 +2,17 @@
 // the first word is written.
 pub mod sides; // what is asked of the sides before their metavariables: 2, 1, 3; 2, 1, 3; 5, 6, 7
 pub mod length; // the length of a right side's code
+
 use crate::length::right_words;
 use crate::sides::accept_sides;
 use documents::Refusal;
 use generator::left::left_side;
 use generator::right::right_side;
-use symbols::all_stand;
-use symbols::enter_all;
 use symbols::Entered;
 use symbols::ROW_WORDS;
 use symbols::TABLE_WORDS;
+use symbols::all_stand;
+use symbols::enter_all;
 use tables::accept::Sized;
 ghost use mathlib.Core.Path.{_≡_};
 ghost use lib.ListN.{length};

@@ -1,5 +1,6 @@
 // What documents 01 and 004 say is in specs/; here stand the opcodes, and the refusals, in the order of 01's tables, and their numbers.
 pub mod op; // the fourteen opcodes
+
 ghost use mathlib.Core.Path.{_≡_};
 ghost use Rattle.documents.specs.Numbers.{numberOf};
 

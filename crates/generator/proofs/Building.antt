@@ -1,25 +1,23 @@
 -- What the right side's functions write: a subterm's code by the kind of its node, and the codes of terms by the first of them and those behind it.
 -- Laws are in the code's form: tests of a part's first word, and parts as the code hands them on.
 use mathlib.Core.Path.{_≡_, refl, sym, ap, _∙_}
-use Prim.Native.Nat.{ℕ, zero, suc, _+_, _-_, _*_, _/_, _%_, _≤_, _<_}
+use Prim.Native.Nat.{ℕ, suc, _+_, _-_, _*_, _≤_, _<_}
 use native.Mathlib.Numerals.{add-one, add-two}
 use native.Mathlib.Omega.{arith}
-use mathlib.Core.Bool.{Bool, true, false, _&&_, cond}
 use mathlib.Core.Option.{Option, none, some}
 use mathlib.Core.List.{List, [], _∷_, _++_, append-assoc, append-nil}
-use lib.Dec.{eqb}
 use lib.ListN.{length, take, drop, getD, set, length-drop, length-take}
-use lib.Seq.{sets, length-sets, set-comm, drop-drop, drop-cons, getD-drop}
-use Rattle.documents.specs.Terms.{Var, Sym, Meta, Abst, Nil, Cons, Term, Terms, len}
+use lib.Seq.{sets, length-sets, set-comm, drop-drop}
+use Rattle.documents.specs.Terms.{Nil, Cons, Term, Terms, len}
 use Rattle.documents.specs.Tables.{nodes}
 use Rattle.documents.specs.Instructions.{CELL, ADBMAL, End, _▸_, Program, words, bodyCount}
-use Rattle.documents.specs.Translation.{Row, row, Located, located, further, lookup, joined, keyed, rhs, rhsMeta}
+use Rattle.documents.specs.Translation.{Row, Located, located, lookup, joined, keyed, rhs, rhsMeta}
 use Rattle.documents.proofs.Lists.{never}
 use Rattle.tables.specs.Parts.{terms, front, Begins, wordCount}
-use Rattle.tables.proofs.Parts.{headed, Step, step, begins-inside, begins-less, Passed, passed, no-terms, front-term, words-fit, in-table, from, from-drop}
+use Rattle.tables.proofs.Parts.{begins-less, Passed, passed, no-terms, front-term, words-fit, in-table, from, from-drop}
 use Rattle.tables.proofs.Walks.{at-abstraction, walk-from}
 use Rattle.tables.proofs.Fronts.{last-word, root, arguments-begin, argument-count, front-variable, front-symbol, front-metavariable, front-abstraction}
-use Rattle.symbols.specs.Rows.{rowsIn, foundIn, Low}
+use Rattle.symbols.specs.Rows.{rowsIn, foundIn}
 use Rattle.symbols.specs.declared.Found.the-variants.{At, Nothing}
 use Rattle.symbols.proofs.Located.{Entry, entry}
 use Rattle.generator.specs.declared.right.Built.{Built}

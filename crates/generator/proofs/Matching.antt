@@ -1,14 +1,14 @@
 -- What the words of a left side's code are at each node, and what is left of them behind it. Laws are in the code's form: places of a whole
 -- table and tests of the first word.
-use mathlib.Core.Path.{_≡_, refl, sym, ap, ap₂, _∙_}
-use Prim.Native.Nat.{ℕ, zero, suc, _+_, _-_, _*_, _/_, _%_, _≤_, _<_}
-use native.Mathlib.Nat.{zero-add, sub-zero}
+use mathlib.Core.Path.{_≡_, refl, sym, ap, _∙_}
+use Prim.Native.Nat.{ℕ, zero, suc, _+_, _-_, _*_, _%_, _≤_, _<_}
+use native.Mathlib.Nat.{sub-zero}
 use native.Mathlib.Numerals.{add-one}
 use native.Mathlib.Omega.{arith}
-use mathlib.Core.Bool.{Bool, true, false, not, _&&_, cond}
-use mathlib.Core.Option.{Option, none, some}
+use mathlib.Core.Bool.{Bool, true, false, not}
+use mathlib.Core.Option.{Option}
 use mathlib.Core.List.{List, [], _∷_, _++_}
-use lib.Dec.{eqb, ltb}
+use lib.Dec.{ltb}
 use lib.ListN.{length, take, drop, getD, length-append, length-drop, List·getD-append}
 use lib.Seq.{drop-cons, drop-drop, sets, getD-at, getD-drop, length-take-le}
 use borrow.Author.Tests.{lt-ltb, le-ltb, ltb-true, ltb-false}
@@ -17,13 +17,13 @@ use Rattle.documents.specs.Terms.{Var, Sym, Meta, Abst, Nil, Cons, Term, Terms,
 use Rattle.documents.specs.Tables.{nodes}
 use Rattle.documents.specs.Rules.{areVars, freevars}
 use Rattle.documents.specs.Instructions.{End, _▸_, Program, words, pairWords}
-use Rattle.documents.specs.Translation.{Row, row, Located, located, further, lookup, unvar, _⧺_, bvset, lhsMeta, setsLess, setsAfter, lhs}
+use Rattle.documents.specs.Translation.{Row, row, Located, lookup, unvar, _⧺_, bvset, lhsMeta, setsLess, setsAfter, lhs}
 use Rattle.documents.proofs.Translation.{⧺-assoc}
 use Rattle.documents.proofs.Lists.{never}
 use Rattle.kahrs.proofs.Simple.{vars, len-vars, unvar-vars, Simple}
 use Rattle.compiled.proofs.Unlisted.{unlisted, unlisted-others}
 use Rattle.tables.specs.Parts.{terms, front, Begins, wordCount}
-use Rattle.tables.proofs.Parts.{join, Step, StepAt, step, begins-inside, begins-less, passed, words-fit, in-table, no-terms, front-term}
+use Rattle.tables.proofs.Parts.{join, Step, StepAt, step, begins-less, passed, words-fit, in-table, no-terms, front-term}
 use Rattle.tables.proofs.Walks.{at-variable, AtAbstraction, at-abstraction, Walk, walk-from, walk-variable, ended, Walking, walking-from, walking-on, walking-variable, walking-abstraction, walking-term, walking-ended}
 use Rattle.tables.proofs.Sides.{is-variable, variables-behind}
 use Rattle.tables.proofs.Fronts.{last-word, root, arguments-begin, argument-count, front-metavariable}
@@ -337,14 +337,16 @@ module _ {part rows code : List ℕ} {under sets at : ℕ} (a : Asked part rows 
           × Fits code at (laterCode (drop (11 * l) rows) (drop 2 part) (getD part 1 0) under (l - sets))
       left-later-fits =
           let d = length-drop (11 * l) rows in
-          let w = its-row .within in
-          (record {
-            variables = here .first .variables;
-            whole = omega arith;
-            narrow = here .narrow;
-            low = rw (getD-drop (11 * l) rows 2 0) (its-row .low);
-            shallow = a .shallow;
-          }, rw later-is at (a .fits))
+          let w = its-row .within in (
+            record {
+              variables = here .first .variables;
+              whole = omega arith;
+              narrow = here .narrow;
+              low = rw (getD-drop (11 * l) rows 2 0) (its-row .low);
+              shallow = a .shallow;
+            },
+            rw later-is at (a .fits),
+          )
 
       pub left-later : {new : List ℕ} {next : ℕ} → Wrote code new at next (laterCode (drop (11 * l) rows) (drop 2 part) (getD part 1 0) under (l - sets))
           → Done part rows code new under sets at (record { read = 2 + 2 * getD part 1 0; sets = sets; next = next })
@@ -451,7 +453,7 @@ module _ {part rows old new : List ℕ} {under sets₀ at owed read sets place :
         let c = symbol-step .count in
         writing-as _
         (words-first (rowsIn rows) under sets symbol-is
-         ∙ rw (c, i, lhs-join (rowsIn rows) under sets (symbol-step .arguments) (symbol-step .later), words-⧺ (lhs (rowsIn rows) under sets (symbol-step .arguments)) (lhs (rowsIn rows) under (setsAfter (rowsIn rows) sets (symbol-step .arguments)) (symbol-step .later))) refl)
+        ∙ rw (c, i, lhs-join (rowsIn rows) under sets (symbol-step .arguments) (symbol-step .later), words-⧺ (lhs (rowsIn rows) under sets (symbol-step .arguments)) (lhs (rowsIn rows) under (setsAfter (rowsIn rows) sets (symbol-step .arguments)) (symbol-step .later))) refl)
         (t .writing)
 
     pub symbol-fits : Fits new place (0 ∷ (getD part read 0 - 65536) ∷ getD part (read + 1) 0 ∷ [])
@@ -488,7 +490,7 @@ module _ {part rows old new : List ℕ} {under sets₀ at owed read sets place :
 
     abst-here : Writing old at (leftCode rows under sets₀ (front part)) new place
         ((1 ∷ []) ++ (leftCode rows (suc under) sets (front (drop (read + 2) part))
-         ++ words (lhs (rowsIn rows) under (setsAfter (rowsIn rows) sets (front (drop (read + 2) part))) (terms (owed - 1) (drop (read + 2 + wordCount (front (drop (read + 2) part))) part)))))
+        ++ words (lhs (rowsIn rows) under (setsAfter (rowsIn rows) sets (front (drop (read + 2) part))) (terms (owed - 1) (drop (read + 2 + wordCount (front (drop (read + 2) part))) part)))))
     abst-here = writing-as _ (words-first (rowsIn rows) under sets (body-at .terms-are)) (t .writing)
 
     pub abst-fits : Fits new place (1 ∷ [])
@@ -500,7 +502,7 @@ module _ {part rows old new : List ℕ} {under sets₀ at owed read sets place :
     module _ {newer : List ℕ} {next : ℕ} (w : Wrote new newer place next (1 ∷ [])) where
       body-here : Writing old at (leftCode rows under sets₀ (front part)) newer next
           (leftCode rows (suc under) sets (front (drop (read + 2) part))
-           ++ words (lhs (rowsIn rows) under (setsAfter (rowsIn rows) sets (front (drop (read + 2) part))) (terms (owed - 1) (drop (read + 2 + wordCount (front (drop (read + 2) part))) part))))
+          ++ words (lhs (rowsIn rows) under (setsAfter (rowsIn rows) sets (front (drop (read + 2) part))) (terms (owed - 1) (drop (read + 2 + wordCount (front (drop (read + 2) part))) part))))
       body-here = writing-on (1 ∷ []) _ abst-here w
 
       pub body-asked : Asked part rows old under sets₀ at → Asked (drop (read + 2) part) rows newer (under + 1) sets next
@@ -531,16 +533,17 @@ module _ {part rows old new : List ℕ} {under sets₀ at owed read sets place :
 
     term-here : Writing old at (leftCode rows under sets₀ (front part)) new place
         (leftCode rows under sets (front (drop read part))
-         ++ words (lhs (rowsIn rows) under (setsAfter (rowsIn rows) sets (front (drop read part))) (terms (owed - 1) (drop (read + wordCount (front (drop read part))) part))))
+        ++ words (lhs (rowsIn rows) under (setsAfter (rowsIn rows) sets (front (drop read part))) (terms (owed - 1) (drop (read + wordCount (front (drop read part))) part))))
     term-here = writing-as _ (words-first (rowsIn rows) under sets term-is) (t .writing)
 
     pub meta-asked : Asked part rows old under sets₀ at → Asked (drop read part) rows new under sets place × Metavariable (drop read part)
     meta-asked a =
         let z : read + 0 ≡ read = omega arith in
         let g : getD (drop read part) 0 0 ≡ getD part read 0 = getD-drop read part 0 0 ∙ ap (λ (i : ℕ). getD part i 0) z in
-        let k = last-word (t .walking .walk) h in
-        (asked-for (drop read part) under place new _ a (begins-less 1 (omega arith) (t .walking .walk .begins)) (simple-first under term-is (t .simple) .0) (a .shallow) (term-here .fits),
-         record { lowest = omega arith; highest = omega arith })
+        let k = last-word (t .walking .walk) h in (
+          asked-for (drop read part) under place new _ a (begins-less 1 (omega arith) (t .walking .walk .begins)) (simple-first under term-is (t .simple) .0) (a .shallow) (term-here .fits),
+          record { lowest = omega arith; highest = omega arith },
+        )
 
     pub meta-on : {newer : List ℕ} {r : Matched} → Done (drop read part) rows new newer under sets place r
         → Translating part rows old under sets₀ at (owed - 1) (read + r .read) (r .sets) (r .next) newer

@@ -7,7 +7,6 @@ use native.Mathlib.Omega.{arith}
 use mathlib.Core.List.{List, [], _∷_, _++_, append-assoc}
 use lib.ListN.{length, take, drop, getD, set, length-append}
 use lib.Seq.{sets, length-sets, drop-cons}
-use Rattle.documents.specs.Limits.{codeLimit}
 use Rattle.documents.specs.Instructions.{End, _▸_, Program, words}
 use Rattle.documents.specs.Translation.{_⧺_}
 use Rattle.generator.specs.Written.{Fits, Wrote}

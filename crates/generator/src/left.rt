@@ -10,9 +10,9 @@ use documents::op::IS;
 use documents::op::ISABST;
 use documents::op::NEXT;
 use documents::op::SET;
-use symbols::Found;
 use symbols::ABOVE;
 use symbols::ARGUMENTS;
+use symbols::Found;
 use symbols::ROW_WORDS;
 use tables::compare::D_SHIFT;
 use tables::node::ABSTRACTION;
@@ -35,7 +35,14 @@ pub struct Matched {
 }
 
 // The code of the subterm that a part begins with, under so many abstractions; `sets` is the number of SETs still to come.
-pub fn left_side(part: &[u32], under: u32, sets: usize, rows: &[u32], code: &mut [u32], at: usize) -> Matched
+pub fn left_side(
+    part: &[u32],
+    under: u32,
+    sets: usize,
+    rows: &[u32],
+    code: &mut [u32],
+    at: usize,
+) -> Matched
     requires { ⌜ Asked (now part) (now rows) (now code) under sets at ⌝ }
     ensures { λ r. ⌜ Done (now (part .entry)) (now (rows .entry)) (now (code .entry)) (now (code .exit)) under sets at r ⌝ }
 {
@@ -81,7 +88,14 @@ pub fn left_side(part: &[u32], under: u32, sets: usize, rows: &[u32], code: &mut
 }
 
 // A metavariable: the first occurrence of it where its location is below the SETs still to come, else a later one.
-fn left_metavariable(part: &[u32], under: u32, sets: usize, rows: &[u32], code: &mut [u32], at: usize) -> Matched
+fn left_metavariable(
+    part: &[u32],
+    under: u32,
+    sets: usize,
+    rows: &[u32],
+    code: &mut [u32],
+    at: usize,
+) -> Matched
     requires { ⌜ Asked (now part) (now rows) (now code) under sets at × Metavariable (now part) ⌝ }
     ensures { λ r. ⌜ Done (now (part .entry)) (now (rows .entry)) (now (code .entry)) (now (code .exit)) under sets at r ⌝ }
 {
@@ -146,7 +160,15 @@ fn put_others(arguments: &[u32], count: u32, under: u32, code: &mut [u32], at: u
 }
 
 // EQI, NEXT.
-fn later_occurrence(row: &[u32], arguments: &[u32], count: u32, under: u32, entry: u32, code: &mut [u32], at: usize) -> usize
+fn later_occurrence(
+    row: &[u32],
+    arguments: &[u32],
+    count: u32,
+    under: u32,
+    entry: u32,
+    code: &mut [u32],
+    at: usize,
+) -> usize
     requires { ⌜ Later (now row) (now arguments) count under × Fits (now code) at (laterCode (now row) (now arguments) count under entry) ⌝ }
     ensures { λ r. ⌜ Wrote (now (code .entry)) (now (code .exit)) at r (laterCode (now (row .entry)) (now (arguments .entry)) count under entry) ⌝ }
 {

@@ -17,7 +17,7 @@ use Rattle.tables.specs.Parts.{terms, front, Begins}
 use Rattle.tables.proofs.Walks.{Walk, walk-from, walk-on, ended}
 use Rattle.tables.proofs.Sides.{metas-front, metas-here, metas-behind}
 use Rattle.tables.proofs.Fronts.{last-word}
-use Rattle.symbols.specs.declared.Found.the-variants.{At, Nothing}
+use Rattle.symbols.specs.declared.Found.the-variants.{At}
 use Rattle.symbols.specs.Rows.{rowsIn, foundIn}
 use Rattle.symbols.specs.Entries.{isFound, Standing}
 use Rattle.symbols.proofs.Located.{is-found}

@@ -19,14 +19,14 @@ use Rattle.documents.specs.Translation.{Row, row, Located, lookup, unvar, enter
 use Rattle.documents.proofs.Lists.{never}
 use Rattle.kahrs.proofs.Places.{Distinct, Under}
 use Rattle.kahrs.proofs.Simple.{vars, len-vars, unvar-vars, update-arguments, Simple}
-use Rattle.tables.specs.Parts.{terms, front, Begins, wordCount}
-use Rattle.tables.proofs.Parts.{join, Step, step, passed, front-term, begins-less, begins-inside, from, from-drop}
-use Rattle.tables.proofs.Walks.{at-abstraction, ended, Walking, walking-from, walking-on, walking-abstraction, walking-term, walking-ended}
-use Rattle.tables.proofs.Sides.{arguments-are}
 use Rattle.compiled.specs.Length.{occurrenceWords, leftWords}
 use Rattle.compiled.proofs.Unlisted.{distinct-few}
 use Rattle.compiled.proofs.Rows.{length-update}
 use Rattle.compiled.proofs.WordCount.{left-short}
+use Rattle.tables.specs.Parts.{terms, front, Begins, wordCount}
+use Rattle.tables.proofs.Parts.{join, Step, step, passed, front-term, begins-less, begins-inside, from, from-drop}
+use Rattle.tables.proofs.Walks.{at-abstraction, ended, Walking, walking-from, walking-on, walking-abstraction, walking-term, walking-ended}
+use Rattle.tables.proofs.Sides.{arguments-are}
 use Rattle.symbols.specs.declared.Found.the-variants.{At, Nothing}
 use Rattle.symbols.specs.declared.Entered.{Entered}
 use Rattle.symbols.specs.declared.Entered.the-variants.{Words, Full}

@@ -10,8 +10,8 @@ use Rattle.documents.specs.Limits.{metavariableLimit}
 use Rattle.documents.specs.Terms.{Sort, Tm, Var, Sym, Meta, Abst, Nil, Cons, Term, len}
 use Rattle.documents.specs.Translation.{Row, row, Located, lookup, unvar, enter, update, symbolTable}
 use Rattle.kahrs.proofs.Simple.{Simple, update-arguments}
-use Rattle.tables.specs.Parts.{wordCount}
 use Rattle.compiled.specs.Length.{leftWords}
+use Rattle.tables.specs.Parts.{wordCount}
 use Rattle.symbols.specs.declared.Entered.{Entered}
 use Rattle.symbols.specs.declared.Entered.the-variants.{Words, Full}
 use Rattle.symbols.specs.Rows.{rowsIn, Low}

@@ -10,8 +10,8 @@ use Rattle.documents.specs.Limits.{metavariableLimit}
 use Rattle.documents.specs.Terms.{Term}
 use Rattle.documents.specs.Rules.{metas, among}
 use Rattle.documents.specs.Translation.{Row, Located, lookup, update}
-use Rattle.tables.specs.Parts.{wordCount}
 use Rattle.compiled.specs.Length.{leftWords}
+use Rattle.tables.specs.Parts.{wordCount}
 use Rattle.symbols.specs.declared.Entered.{Entered}
 use Rattle.symbols.specs.declared.Entered.the-variants.{Words, Full}
 use Rattle.symbols.specs.Rows.{rowsIn}

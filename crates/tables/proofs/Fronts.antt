@@ -10,7 +10,7 @@ use borrow.Author.Tests.{ltb-true, ltb-false}
 use Rattle.documents.specs.Terms.{Var, Sym, Meta, Abst, Cons, Term, Terms, len}
 use Rattle.documents.specs.Rules.{isSymbol}
 use Rattle.tables.specs.Parts.{terms, front, Begins}
-use Rattle.tables.proofs.Parts.{headed, Shape, Step, step, begins-inside, front-term}
+use Rattle.tables.proofs.Parts.{headed, Step, step, begins-inside, front-term}
 use Rattle.tables.proofs.Walks.{at-variable, at-abstraction, Walk}
 use Rattle.tables.proofs.Sides.{arguments-are}
 

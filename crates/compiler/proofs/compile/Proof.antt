@@ -1,12 +1,8 @@
-use Rattle.compiler.proofs.Called.{sides-accepted, call-refused}
 use mathlib.Core.Path.{sym, _∙_}
+use Rattle.compiler.proofs.Called.{sides-accepted, call-refused}
 use borrow.Author.Needs.{needs}
 use Rattle.compiler.proofs.compile.Statement.{statement}
 use Rattle.compiler.proofs.compile.Tie as tie
-use Rattle.compiler.proofs.compile.Reads as reads
-use Rattle.compiler.proofs.compile.Lts as lts
-use Rattle.compiler.proofs.sides.accept_sides.Reads as accept-sides-reads
-use Rattle.compiler.proofs.translate.Reads as translate-reads
 
 pub compile-spec : {M : Type 1} → statement M
 compile-spec =

@@ -2,10 +2,6 @@ use Rattle.compiler.proofs.Generated.{left-asked, right-asked, generate
 use borrow.Author.Needs.{needs}
 use Rattle.compiler.proofs.generate.Statement.{statement}
 use Rattle.compiler.proofs.generate.Tie as tie
-use Rattle.compiler.proofs.generate.Reads as reads
-use Rattle.compiler.proofs.generate.Lts as lts
-use Rattle.generator.proofs.left.left_side.Reads as left-side-reads
-use Rattle.generator.proofs.right.right_side.Reads as right-side-reads
 
 pub generate-spec : {M : Type 1} → statement M
 generate-spec = tie.close (tie.spec (λ c κs. left-asked (c .before .before .before .before .before .pre)) (λ c κs. right-asked (c .before .before .before .before .before .before .before .before .before .pre) (c .before .before .before .left-side .ensures)) (λ c. search needs) (λ c. generated (c .before .before .before .before .before .before .before .before .before .before .before .before .pre) (c .before .before .before .before .before .before .left-side .ensures) (c .before .before .right-side .ensures)))

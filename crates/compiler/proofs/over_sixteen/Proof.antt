@@ -1,16 +1,11 @@
+use mathlib.Core.Path.{sym, _∙_}
+use borrow.Author.Tests.{not-true, not-false}
 use Rattle.tables.specs.Parts.{front}
 use Rattle.symbols.proofs.Asked.{standing-none}
 use Rattle.symbols.proofs.Rows.{no-words}
-use native.Mathlib.Omega.{arith}
-use borrow.Author.Tests.{not-true, not-false}
-use mathlib.Core.Bool.{Bool, cond}
-use mathlib.Core.Path.{_≡_, sym, ap, _∙_}
 use borrow.Author.Needs.{needs}
 use Rattle.compiler.proofs.over_sixteen.Statement.{statement}
 use Rattle.compiler.proofs.over_sixteen.Tie as tie
-use Rattle.compiler.proofs.over_sixteen.Reads as reads
-use Rattle.compiler.proofs.over_sixteen.Lts as lts
-use Rattle.symbols.proofs.all_stand.Reads as all-stand-reads
 
 pub over-sixteen-spec : {M : Type 1} → statement M
 over-sixteen-spec =

@@ -1,28 +1,14 @@
-use Rattle.compiler.proofs.Called.{left-simple, left-short, right-short, call-crowded, call-absent, call-short, call-done, code-fits, length-small, rows-of}
-use Rattle.symbols.proofs.Whole.{table-without-rows, table-made, table-full}
-use Rattle.symbols.proofs.Asked.{standing-table}
-use Rattle.tables.specs.Parts.{front}
-use borrow.Author.Tests.{not-true, not-false}
+use mathlib.Core.Path.{refl, sym, _∙_}
+use native.Mathlib.Omega.{arith}
 use lib.ListN.{replicate}
-use native.Mathlib.Omega.{arith}
-use mathlib.Core.Path.{_≡_, refl, sym, _∙_}
-use Rattle.compiler.proofs.Called.{left-simple, left-short, right-short, call-crowded, call-absent, call-short, call-done, code-fits, length-small, rows-of}
+use borrow.Author.Tests.{not-true, not-false}
+use Rattle.tables.specs.Parts.{front}
 use Rattle.symbols.proofs.Whole.{table-without-rows, table-made, table-full}
 use Rattle.symbols.proofs.Asked.{standing-table}
-use Rattle.tables.specs.Parts.{front}
-use borrow.Author.Tests.{not-true, not-false}
-use native.Mathlib.Omega.{arith}
-use mathlib.Core.Path.{_≡_, refl, sym, _∙_}
+use Rattle.compiler.proofs.Called.{left-simple, left-short, right-short, call-crowded, call-absent, call-short, call-done, code-fits, length-small, rows-of}
 use borrow.Author.Needs.{needs}
 use Rattle.compiler.proofs.translate.Statement.{statement}
 use Rattle.compiler.proofs.translate.Tie as tie
-use Rattle.compiler.proofs.translate.Reads as reads
-use Rattle.compiler.proofs.translate.Lts as lts
-use Rattle.compiler.proofs.generate.Reads as generate-reads
-use Rattle.compiler.proofs.length.right_words.Reads as right-words-reads
-use Rattle.compiler.proofs.over_sixteen.Reads as over-sixteen-reads
-use Rattle.symbols.proofs.all_stand.Reads as all-stand-reads
-use Rattle.symbols.proofs.enter_all.Reads as enter-all-reads
 
 pub translate-spec : {M : Type 1} → statement M
 translate-spec =

@@ -4,12 +4,12 @@ use mathlib.Core.Path.{sym, _∙_}
 use Prim.Native.Nat.{ℕ, _-_, _<_}
 use native.Mathlib.Omega.{arith}
 use lib.ListN.{length, drop, length-drop}
-use borrow.Author.Needs.{needs}
-use borrow.Fn.Kinds.{In}
-use borrow.Fn.PlainCycle.{Measures, is, falls, and}
 use Rattle.tables.proofs.Parts.{from-drop}
 use Rattle.symbols.specs.Rows.{rowsIn}
 use Rattle.symbols.proofs.Entering.{Entering, entering-from, narrow-node, entering-plain, body-begins, body-simple, body-low, entering-body, body-full, arguments-begin, arguments-variables, arguments-few, entering-first, entering-later, entering-full, entering-ended}
+use borrow.Author.Needs.{needs}
+use borrow.Fn.Kinds.{In}
+use borrow.Fn.PlainCycle.{Measures, is, falls, and}
 use Rattle.symbols.proofs.+enter_all.{statement}
 use Rattle.symbols.proofs.+enter_all.Tie.{close}
 use Rattle.symbols.proofs.enter_all.Reads as enter-all

@@ -1,19 +1,15 @@
 -- `all_stand` meets its contract: whether the metavariables of the terms still owed stand on the left is what was asked of the subterm's. One that has a
 -- row stands there, one that has none is looked for, and any other node is passed.
-use Rattle.symbols.proofs.Asked.{Asking, asking-from, asking-on, asking-standing, asking-found, asking-missing, asking-name, asking-ended}
-use Rattle.tables.proofs.Walks.{walk-on}
-use Rattle.tables.specs.Parts.{front}
-use lib.ListN.{length}
-use native.Mathlib.Omega.{arith}
-use Prim.Native.Nat.{_-_}
 use mathlib.Core.Path.{sym, _∙_}
+use Prim.Native.Nat.{_-_}
+use native.Mathlib.Omega.{arith}
+use lib.ListN.{length}
+use Rattle.tables.specs.Parts.{front}
+use Rattle.tables.proofs.Walks.{walk-on}
+use Rattle.symbols.proofs.Asked.{Asking, asking-from, asking-on, asking-standing, asking-found, asking-missing, asking-name, asking-ended}
 use borrow.Author.Needs.{needs}
 use Rattle.symbols.proofs.all_stand.Statement.{statement}
 use Rattle.symbols.proofs.all_stand.Tie as tie
-use Rattle.symbols.proofs.all_stand.Reads as reads
-use Rattle.symbols.proofs.all_stand.Lts as lts
-use Rattle.symbols.proofs.find.Reads as find-reads
-use Rattle.tables.proofs.side.stands.Reads as stands-reads
 
 abbrev Inv-loop : tie.InvT-loop
 Inv-loop part rows left owed₀ at₀ owed at = Asking part (front left) owed at

@@ -2,10 +2,10 @@
 use mathlib.Core.Path.{_∙_}
 use native.Mathlib.Omega.{arith}
 use lib.ListN.{length-set}
-use borrow.Author.Needs.{needs}
 use Rattle.documents.specs.Translation.{unvar}
 use Rattle.tables.specs.Parts.{terms}
 use Rattle.symbols.proofs.Stored.{four-sets}
+use borrow.Author.Needs.{needs}
 use Rattle.symbols.proofs.enter.Statement.{statement}
 use Rattle.symbols.proofs.enter.Tie as tie
 

@@ -4,8 +4,8 @@ use Prim.Native.Nat.{_-_}
 use native.Mathlib.Omega.{arith}
 use mathlib.Core.Logic.{⊎-elim}
 use lib.ListN.{length}
-use borrow.Author.Needs.{needs}
 use Rattle.symbols.proofs.Rows.{Seeking, seeking-from, seeking-here, seeking-on, seeking-ended}
+use borrow.Author.Needs.{needs}
 use Rattle.symbols.proofs.find.Statement.{statement}
 use Rattle.symbols.proofs.find.Tie as tie
 

@@ -1,13 +1,11 @@
-use Rattle.compiler.proofs.Counted.{Counting, counting-from, counting-variable, counting-symbol, counting-abstraction, counting-metavariable, counting-ended}
-use Rattle.tables.proofs.Walks.{walk-on}
-use lib.ListN.{length}
-use native.Mathlib.Omega.{arith}
 use Prim.Native.Nat.{_-_}
+use native.Mathlib.Omega.{arith}
+use lib.ListN.{length}
+use Rattle.tables.proofs.Walks.{walk-on}
+use Rattle.compiler.proofs.Counted.{Counting, counting-from, counting-variable, counting-symbol, counting-abstraction, counting-metavariable, counting-ended}
 use borrow.Author.Needs.{needs}
 use Rattle.compiler.proofs.length.right_words.Statement.{statement}
 use Rattle.compiler.proofs.length.right_words.Tie as tie
-use Rattle.compiler.proofs.length.right_words.Reads as reads
-use Rattle.compiler.proofs.length.right_words.Lts as lts
 
 abbrev Inv-loop : tie.InvT-loop
 Inv-loop part owed₀ at₀ words₀ owed at words = Counting part owed at words

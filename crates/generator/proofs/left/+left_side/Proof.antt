@@ -1,21 +1,19 @@
-use Rattle.generator.proofs.Matching.{Translating, translating-from, translating-ended, variable-fits, variable-on, symbol-fits, symbol-on, abst-fits, abst-low, body-asked, body-on, meta-asked, meta-on, meta-read}
-use Rattle.tables.proofs.Parts.{from-drop}
-use lib.ListN.{length, length-drop}
+use Prim.Native.Nat.{_+_, _-_, ℕ, _<_}
 use native.Mathlib.Omega.{arith}
-use Prim.Native.Nat.{_+_, _-_}
-use mathlib.Core.Path.{_≡_}
+use lib.ListN.{length, length-drop}
+use Rattle.tables.proofs.Parts.{from-drop}
+use Rattle.generator.proofs.Matching.{Translating, translating-from, translating-ended, variable-fits, variable-on, symbol-fits, symbol-on, abst-fits, abst-low, body-asked, body-on, meta-asked, meta-on, meta-read}
 use borrow.Author.Needs.{needs}
-use Prim.Native.Nat.{ℕ, _<_}
 use borrow.Fn.Kinds.{In}
 use borrow.Fn.PlainCycle.{Measures, is, falls, and}
+use Rattle.generator.proofs.left.+left_side.{statement}
+use Rattle.generator.proofs.left.+left_side.Tie.{close}
 use Rattle.generator.proofs.left.left_side.Reads as left-side
 use Rattle.generator.proofs.left.left_side.Kinds as left-side-kinds
 use Rattle.generator.proofs.left.+left_side.Lts-left_side as left-side-lts
 use Rattle.generator.proofs.left.left_metavariable.Reads as left-metavariable-reads
 use Rattle.generator.proofs.put.put_one.Reads as put-one-reads
 use Rattle.generator.proofs.put.put_three.Reads as put-three-reads
-use Rattle.generator.proofs.left.+left_side.{statement}
-use Rattle.generator.proofs.left.+left_side.Tie.{close}
 
 abbrev μ-left-side : Measures 3 left-side-kinds.ps ℕ
 μ-left-side κs a = length (a .0 .now)

@@ -2,10 +2,6 @@ use Rattle.generator.proofs.Matching.{first-check, first-list, first-en
 use borrow.Author.Needs.{needs}
 use Rattle.generator.proofs.left.first_occurrence.Statement.{statement}
 use Rattle.generator.proofs.left.first_occurrence.Tie as tie
-use Rattle.generator.proofs.left.first_occurrence.Reads as reads
-use Rattle.generator.proofs.left.first_occurrence.Lts as lts
-use Rattle.generator.proofs.left.put_others.Reads as put-others-reads
-use Rattle.generator.proofs.put.put_two.Reads as put-two-reads
 
 pub first-occurrence-spec : {M : Type 1} → statement M
 first-occurrence-spec =

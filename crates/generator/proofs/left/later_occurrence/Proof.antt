@@ -1,15 +1,10 @@
-use Rattle.generator.proofs.Matching.{later-eqi, later-pairs, later-ends, later-written}
-use Rattle.tables.proofs.Parts.{from-drop}
-use lib.ListN.{length-drop}
 use native.Mathlib.Omega.{arith}
+use lib.ListN.{length-drop}
+use Rattle.tables.proofs.Parts.{from-drop}
+use Rattle.generator.proofs.Matching.{later-eqi, later-pairs, later-ends, later-written}
 use borrow.Author.Needs.{needs}
 use Rattle.generator.proofs.left.later_occurrence.Statement.{statement}
 use Rattle.generator.proofs.left.later_occurrence.Tie as tie
-use Rattle.generator.proofs.left.later_occurrence.Reads as reads
-use Rattle.generator.proofs.left.later_occurrence.Lts as lts
-use Rattle.generator.proofs.left.put_pairs.Reads as put-pairs-reads
-use Rattle.generator.proofs.put.put_four.Reads as put-four-reads
-use Rattle.generator.proofs.put.put_one.Reads as put-one-reads
 
 pub later-occurrence-spec : {M : Type 1} → statement M
 later-occurrence-spec =

@@ -1,16 +1,10 @@
-use Prim.Native.Nat.{_*_}
-use Rattle.generator.proofs.Matching.{here, its-row, left-none, left-first-fits, left-first, left-later-fits, left-later}
-use Rattle.tables.proofs.Parts.{from-drop}
-use native.Mathlib.Omega.{arith}
 use mathlib.Core.Path.{sym, _∙_}
+use Prim.Native.Nat.{_*_}
+use Rattle.tables.proofs.Parts.{from-drop}
+use Rattle.generator.proofs.Matching.{here, its-row, left-none, left-first-fits, left-first, left-later-fits, left-later}
 use borrow.Author.Needs.{needs}
 use Rattle.generator.proofs.left.left_metavariable.Statement.{statement}
 use Rattle.generator.proofs.left.left_metavariable.Tie as tie
-use Rattle.generator.proofs.left.left_metavariable.Reads as reads
-use Rattle.generator.proofs.left.left_metavariable.Lts as lts
-use Rattle.generator.proofs.left.first_occurrence.Reads as first-occurrence-reads
-use Rattle.generator.proofs.left.later_occurrence.Reads as later-occurrence-reads
-use Rattle.symbols.proofs.find.Reads as find-reads
 
 pub left-metavariable-spec : {M : Type 1} → statement M
 left-metavariable-spec =

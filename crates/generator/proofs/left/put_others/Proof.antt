@@ -1,14 +1,10 @@
 use mathlib.Core.Path.{sym, _∙_}
-use Rattle.generator.proofs.Matching.{Listing, listing-from, listing-over, listing-fits, listing-on, listing-ended}
 use Prim.Native.Nat.{_-_}
 use native.Mathlib.Omega.{arith}
+use Rattle.generator.proofs.Matching.{Listing, listing-from, listing-over, listing-fits, listing-on, listing-ended}
 use borrow.Author.Needs.{needs}
 use Rattle.generator.proofs.left.put_others.Statement.{statement}
 use Rattle.generator.proofs.left.put_others.Tie as tie
-use Rattle.generator.proofs.left.put_others.Reads as reads
-use Rattle.generator.proofs.left.put_others.Lts as lts
-use Rattle.generator.proofs.put.put_one.Reads as put-one-reads
-use Rattle.tables.proofs.side.occurs_among.Reads as occurs-among-reads
 
 abbrev Inv-loop : tie.InvT-loop
 Inv-loop arguments count under code₀ at index₀ place₀ code index place = Listing arguments code₀ count under at index place code

@@ -1,17 +1,13 @@
-use Rattle.generator.proofs.Matching.{Pairing, pairing-from, pairing-fits, pairing-on, pairing-ended}
-use Rattle.tables.specs.Parts.{terms}
+use native.Mathlib.Omega.{arith}
+use lib.ListN.{take}
 use Rattle.documents.specs.Translation.{unvar}
 use Rattle.documents.specs.Instructions.{pairWords}
 use Rattle.documents.specs.Lists.{pairlists}
-use lib.ListN.{length, take}
-use Prim.Native.Nat.{_-_}
-use native.Mathlib.Omega.{arith}
+use Rattle.tables.specs.Parts.{terms}
+use Rattle.generator.proofs.Matching.{Pairing, pairing-from, pairing-fits, pairing-on, pairing-ended}
 use borrow.Author.Needs.{needs}
 use Rattle.generator.proofs.left.put_pairs.Statement.{statement}
 use Rattle.generator.proofs.left.put_pairs.Tie as tie
-use Rattle.generator.proofs.left.put_pairs.Reads as reads
-use Rattle.generator.proofs.left.put_pairs.Lts as lts
-use Rattle.generator.proofs.put.put_two.Reads as put-two-reads
 
 abbrev Inv-loop : tie.InvT-loop
 Inv-loop old new count code₀ at left₀ i₀ read₀ place₀ code left i read place = Pairing old new code₀ at (pairWords (pairlists (take count old) (unvar (terms count new)))) left i read place code

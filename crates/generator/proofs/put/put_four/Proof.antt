@@ -1,12 +1,10 @@
 use mathlib.Core.Path.{refl}
-use lib.ListN.{length-set}
 use native.Mathlib.Numerals.{add-one, add-two, add-three}
 use native.Mathlib.Omega.{arith}
+use lib.ListN.{length-set}
 use borrow.Author.Needs.{needs}
 use Rattle.generator.proofs.put.put_four.Statement.{statement}
 use Rattle.generator.proofs.put.put_four.Tie as tie
-use Rattle.generator.proofs.put.put_four.Reads as reads
-use Rattle.generator.proofs.put.put_four.Lts as lts
 
 pub put-four-spec : {M : Type 1} → statement M
 put-four-spec =

@@ -1,12 +1,10 @@
 use mathlib.Core.Path.{refl}
-use lib.ListN.{length-set}
 use native.Mathlib.Numerals.{add-one, add-two}
 use native.Mathlib.Omega.{arith}
+use lib.ListN.{length-set}
 use borrow.Author.Needs.{needs}
 use Rattle.generator.proofs.put.put_three.Statement.{statement}
 use Rattle.generator.proofs.put.put_three.Tie as tie
-use Rattle.generator.proofs.put.put_three.Reads as reads
-use Rattle.generator.proofs.put.put_three.Lts as lts
 
 pub put-three-spec : {M : Type 1} → statement M
 put-three-spec =

@@ -1,12 +1,10 @@
 use mathlib.Core.Path.{refl}
-use lib.ListN.{length-set}
-use native.Mathlib.Numerals.{add-one, add-two}
+use native.Mathlib.Numerals.{add-one}
 use native.Mathlib.Omega.{arith}
+use lib.ListN.{length-set}
 use borrow.Author.Needs.{needs}
 use Rattle.generator.proofs.put.put_two.Statement.{statement}
 use Rattle.generator.proofs.put.put_two.Tie as tie
-use Rattle.generator.proofs.put.put_two.Reads as reads
-use Rattle.generator.proofs.put.put_two.Lts as lts
 
 pub put-two-spec : {M : Type 1} → statement M
 put-two-spec =

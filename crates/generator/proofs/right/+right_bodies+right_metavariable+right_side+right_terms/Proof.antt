@@ -5,19 +5,19 @@ use mathlib.Core.Path.{sym, _∙_}
 use Prim.Native.Nat.{ℕ, _+_, _*_, _<_}
 use native.Mathlib.Omega.{arith}
 use lib.ListN.{length, length-drop}
+use Rattle.tables.proofs.Parts.{from-drop}
+use Rattle.generator.proofs.Building.{root-words, is-metavariable, ready-arguments, ready-body, arguments-within, body-within, fits-variable, builds-variable, fits-arguments, writing-cell, builds-symbol, fits-lambda, fits-inside, writing-adbmal, builds-abstraction, builds-absent, row-of, keys-within, fits-pushi, writing-bodies, builds-metavariable, ready-first, first-within, Joining, joining-from, fits-first-term, joining-on, joining-ended, Keying, keying-from, fits-body, body-length, fits-key, keying-on, keying-ended}
 use borrow.Author.Needs.{needs}
 use borrow.Fn.Kinds.{In}
 use borrow.Fn.PlainCycle.{Measures, is, falls, and}
-use Rattle.tables.proofs.Parts.{from-drop}
+use Rattle.generator.proofs.right.+right_bodies+right_metavariable+right_side+right_terms.{statement}
+use Rattle.generator.proofs.right.+right_bodies+right_metavariable+right_side+right_terms.Tie.{close}
 use Rattle.tables.proofs.pass.skip.Reads as skip-reads
 use Rattle.symbols.proofs.find.Reads as find-reads
-use Rattle.generator.proofs.Building.{root-words, is-metavariable, ready-arguments, ready-body, arguments-within, body-within, fits-variable, builds-variable, fits-arguments, writing-cell, builds-symbol, fits-lambda, fits-inside, writing-adbmal, builds-abstraction, builds-absent, row-of, keys-within, fits-pushi, writing-bodies, builds-metavariable, ready-first, first-within, Joining, joining-from, fits-first-term, joining-on, joining-ended, Keying, keying-from, fits-body, body-length, fits-key, keying-on, keying-ended}
 use Rattle.generator.proofs.put.put_one.Reads as put-one-reads
 use Rattle.generator.proofs.put.put_two.Reads as put-two-reads
 use Rattle.generator.proofs.put.put_three.Reads as put-three-reads
 use Rattle.generator.proofs.put.put_four.Reads as put-four-reads
-use Rattle.generator.proofs.right.+right_bodies+right_metavariable+right_side+right_terms.{statement}
-use Rattle.generator.proofs.right.+right_bodies+right_metavariable+right_side+right_terms.Tie.{close}
 use Rattle.generator.proofs.right.right_bodies.Reads as right-bodies
 use Rattle.generator.proofs.right.right_bodies.Kinds as right-bodies-kinds
 use Rattle.generator.proofs.right.+right_bodies+right_metavariable+right_side+right_terms.Lts-right_bodies as right-bodies-lts
