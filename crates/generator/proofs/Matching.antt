@@ -1,7 +1,7 @@
 -- What the words of a left side's code are at each node, and what is left of them behind it. Laws are in the code's form: places of a whole
 -- table and tests of the first word.
 use mathlib.Core.Path.{_≡_, refl, sym, ap, _∙_}
-use Prim.Native.Nat.{ℕ, zero, suc, _+_, _-_, _*_, _%_, _≤_, _<_}
+use Prim.Native.Nat.{ℕ, zero, suc, _+_, _-_, _*_, _/_, _%_, _≤_, _<_}
 use native.Mathlib.Nat.{sub-zero}
 use native.Mathlib.Numerals.{add-one}
 use native.Mathlib.Omega.{arith}
@@ -23,16 +23,16 @@ use Rattle.documents.proofs.Lists.{never}
 use Rattle.kahrs.proofs.Simple.{vars, len-vars, unvar-vars, Simple}
 use Rattle.compiled.proofs.Unlisted.{unlisted, unlisted-others}
 use Rattle.tables.specs.Parts.{terms, front, Begins, wordCount}
-use Rattle.tables.proofs.Parts.{join, Step, StepAt, step, begins-less, passed, words-fit, in-table, no-terms, front-term}
-use Rattle.tables.proofs.Walks.{at-variable, AtAbstraction, at-abstraction, Walk, walk-from, walk-variable, ended, Walking, walking-from, walking-on, walking-variable, walking-abstraction, walking-term, walking-ended}
+use Rattle.tables.proofs.Parts.{join, Step, step, begins-less, passed, words-fit, in-table, no-terms, front-term}
+use Rattle.tables.proofs.Walks.{at-variable, at-abstraction, Walk, walk-from, walk-variable, ended, Walking, walking-from, walking-on, walking-term, walking-ended}
 use Rattle.tables.proofs.Sides.{is-variable, variables-behind}
-use Rattle.tables.proofs.Fronts.{last-word, root, arguments-begin, argument-count, front-metavariable}
+use Rattle.tables.proofs.Fronts.{last-word, root, arguments-begin, argument-count, front-metavariable, front-abstraction}
 use Rattle.symbols.specs.declared.Found.the-variants.{At, Nothing}
 use Rattle.symbols.specs.Rows.{rowsIn, foundIn}
 use Rattle.symbols.proofs.Located.{is-nothing, Entry, entry}
 use Rattle.generator.specs.declared.left.Matched.{Matched}
 use Rattle.generator.specs.Written.{Fits, Wrote}
-use Rattle.generator.specs.Matching.{leftCode, Variables, First, firstCode, Later, laterCode, Metavariable, Asked, Done}
+use Rattle.generator.specs.Matching.{leftCode, plainCode, Variables, First, firstCode, Later, laterCode, Metavariable, Asked, Done}
 use Rattle.generator.proofs.Written.{words-⧺, Writing, writing-from, writing-on, writing-ended, writing-last, writing-as, fits-first, take-left}
 
 -- ---- Variables
@@ -376,10 +376,31 @@ simple-join : (n : ℕ) (ts us : Terms) → Simple n ts → Simple n us → Simp
 simple-join n Nil us h k = k
 simple-join n (Cons t ts) us h k = (h .0, simple-join n ts us (h .1) k)
 
-symbol-node : {k s c : ℕ} {ts us : Terms} (p : Step k s c ts us) → k ≡ 1 → ts ≡ Cons (Sym s (p .arguments)) (p .later)
-symbol-node {k = zero} p e = absurd (omega arith)
-symbol-node {k = suc zero} p e = p .node
-symbol-node {k = suc (suc k)} p e = absurd (omega arith)
+-- a variable's or a symbol's node: its own words, and what stands behind it
+pub record Plain (tab : List Row) (n sets w c : ℕ) (ts us : Terms) : Type 0 where
+  pub code-are : words (lhs tab n sets ts) ≡ plainCode w c ++ words (lhs tab n sets us)
+  pub sets-are : setsAfter tab sets ts ≡ setsAfter tab sets us
+  pub simple-behind : Simple n ts → Simple n us
+
+plain-step : {k s c w : ℕ} {ts us : Terms} (tab : List Row) (n sets : ℕ) → Step k s c ts us → w / 65536 ≡ k → w % 65536 ≡ s → w < 131072 → Plain tab n sets w c ts us
+plain-step {k = zero} {s} {c} {w} {ts} {us} tab n sets p e f h =
+    let q : s ≡ w = omega arith in
+    let i : us ≡ p .later = p .inside ∙ ap (λ (x : Terms). join x (p .later)) (p .shape) in
+    let t : ts ≡ Cons (Var w) us = p .node ∙ rw (q, i) refl in
+    let x = lt-ltb w 65536 (omega arith) in
+    rw t (record { code-are = rw x; sets-are = refl; simple-behind = λ y. y .1 })
+plain-step {k = suc zero} {s} {c} {w} {ts} {us} tab n sets p e f h =
+    let q : s ≡ w - 65536 = omega arith in
+    let x = le-ltb w 65536 (omega arith) in
+    let l = p .arguments in
+    let m = p .later in
+    rw (p .node, p .inside)
+    (record {
+      code-are = rw (x, q, p .count) (ap (λ (ws : List ℕ). 0 ∷ (w - 65536) ∷ c ∷ ws) (sym (ap words (lhs-join tab n sets l m))));
+      sets-are = sym (setsAfter-join tab sets l m);
+      simple-behind = λ y. simple-join n l m (y .0) (y .1);
+    })
+plain-step {k = suc (suc k)} tab n sets p e f h = absurd (omega arith)
 
 -- terms of a left side still to be translated, and their words still to be written
 pub record Translating (part rows old : List ℕ) (under sets₀ at owed read sets place : ℕ) (new : List ℕ) : Type 0 where
@@ -408,159 +429,132 @@ translating-ended {part} {rows} {under = under} {owed = owed} {read} {sets} t h 
       wrote = writing-ended (writing-as _ (ap (λ (ts : Terms). words (lhs (rowsIn rows) under sets ts)) e) (t .writing));
     }
 
--- the words of terms of which the first is known
-words-first : (tab : List Row) (n sets : ℕ) {ts later : Terms} {u : Term} → ts ≡ Cons u later
-    → words (lhs tab n sets ts) ≡ words (lhs tab n sets u) ++ words (lhs tab n (setsAfter tab sets u) later)
-words-first tab n sets {ts} {later} {u} e = ap (λ (us : Terms). words (lhs tab n sets us)) e ∙ words-⧺ (lhs tab n sets u) (lhs tab n (setsAfter tab sets u) later)
-
-simple-first : (n : ℕ) {ts later : Terms} {u : Term} → ts ≡ Cons u later → Simple n ts → Simple n u × Simple n later
-simple-first n e h = rw e at h
-
 module _ {part rows old new : List ℕ} {under sets₀ at owed read sets place : ℕ} (t : Translating part rows old under sets₀ at owed read sets place new) (h : 0 < owed) where
-  -- a variable
-  module _ (v : getD part read 0 < 65536) where
-    variable-here : Writing old at (leftCode rows under sets₀ (front part)) new place ((5 ∷ getD part read 0 ∷ 2 ∷ []) ++ words (lhs (rowsIn rows) under sets (terms (owed - 1) (drop (read + 2) part))))
-    variable-here = writing-as _ (words-first (rowsIn rows) under sets (at-variable part read owed (t .walking .walk .begins) h v .terms-are)) (t .writing)
+  -- a variable or a symbol
+  module _ (v : getD part read 0 < 131072) where
+    plain-at : Plain (rowsIn rows) under sets (getD part read 0) (getD part (read + 1) 0) (terms owed (drop read part)) (terms (owed - 1 + getD part (read + 1) 0) (drop (read + 2) part))
+    plain-at = plain-step (rowsIn rows) under sets (step part read owed (t .walking .walk .begins) h) refl refl v
 
-    pub variable-fits : Fits new place (5 ∷ getD part read 0 ∷ 2 ∷ [])
-    variable-fits = fits-first (5 ∷ getD part read 0 ∷ 2 ∷ []) _ (variable-here .fits)
+    plain-here : Writing old at (leftCode rows under sets₀ (front part)) new place
+        (plainCode (getD part read 0) (getD part (read + 1) 0) ++ words (lhs (rowsIn rows) under sets (terms (owed - 1 + getD part (read + 1) 0) (drop (read + 2) part))))
+    plain-here = writing-as _ (plain-at .code-are) (t .writing)
 
-    pub variable-on : {newer : List ℕ} {next : ℕ} → Wrote new newer place next (5 ∷ getD part read 0 ∷ 2 ∷ [])
-        → Translating part rows old under sets₀ at (owed - 1) (read + 2) sets next newer
-    variable-on w =
-        let e = at-variable part read owed (t .walking .walk .begins) h v .terms-are in
-        record {
-          walking = walking-variable (t .walking) h v;
-          simple = simple-first under e (t .simple) .1;
-          coming = sym (ap (setsAfter (rowsIn rows) sets) e) ∙ t .coming;
-          writing = writing-on (5 ∷ getD part read 0 ∷ 2 ∷ []) _ variable-here w;
-        }
+    pub plain-fits : Fits new place (plainCode (getD part read 0) (getD part (read + 1) 0))
+    plain-fits = fits-first (plainCode (getD part read 0) (getD part (read + 1) 0)) _ (plain-here .fits)
 
-  -- a symbol
-  module _ (lo : 65536 ≤ getD part read 0) (hi : getD part read 0 < 131072) where
-    symbol-step : StepAt part read owed
-    symbol-step = step part read owed (t .walking .walk .begins) h
-
-    symbol-is : terms owed (drop read part) ≡ Cons (Sym (getD part read 0 - 65536) (symbol-step .arguments)) (symbol-step .later)
-    symbol-is =
-        let e : getD part read 0 % 65536 ≡ getD part read 0 - 65536 = omega arith in
-        symbol-node symbol-step (omega arith) ∙ ap (λ (s : ℕ). Cons (Sym s (symbol-step .arguments)) (symbol-step .later)) e
-
-    symbol-here : Writing old at (leftCode rows under sets₀ (front part)) new place
-        ((0 ∷ (getD part read 0 - 65536) ∷ getD part (read + 1) 0 ∷ []) ++ words (lhs (rowsIn rows) under sets (terms (owed - 1 + getD part (read + 1) 0) (drop (read + 2) part))))
-    symbol-here =
-        let i = symbol-step .inside in
-        let c = symbol-step .count in
-        writing-as _
-        (words-first (rowsIn rows) under sets symbol-is
-        ∙ rw (c, i, lhs-join (rowsIn rows) under sets (symbol-step .arguments) (symbol-step .later), words-⧺ (lhs (rowsIn rows) under sets (symbol-step .arguments)) (lhs (rowsIn rows) under (setsAfter (rowsIn rows) sets (symbol-step .arguments)) (symbol-step .later))) refl)
-        (t .writing)
-
-    pub symbol-fits : Fits new place (0 ∷ (getD part read 0 - 65536) ∷ getD part (read + 1) 0 ∷ [])
-    symbol-fits = fits-first (0 ∷ (getD part read 0 - 65536) ∷ getD part (read + 1) 0 ∷ []) _ (symbol-here .fits)
-
-    pub symbol-on : {newer : List ℕ} {next : ℕ} → Wrote new newer place next (0 ∷ (getD part read 0 - 65536) ∷ getD part (read + 1) 0 ∷ [])
+    pub plain-on : {newer : List ℕ} {next : ℕ} → Wrote new newer place next (plainCode (getD part read 0) (getD part (read + 1) 0))
         → Translating part rows old under sets₀ at (owed - 1 + getD part (read + 1) 0) (read + 2) sets next newer
-    symbol-on w =
-        let i = symbol-step .inside in
-        let s = simple-first under symbol-is (t .simple) in
+    plain-on w = record {
+      walking = walking-on (t .walking) h;
+      simple = plain-at .simple-behind (t .simple);
+      coming = sym (plain-at .sets-are) ∙ t .coming;
+      writing = writing-on (plainCode (getD part read 0) (getD part (read + 1) 0)) _ plain-here w;
+    }
+
+  -- a term that is handed on
+  term-is : terms owed (drop read part) ≡ Cons (front (drop read part)) (terms (owed - 1) (drop (read + wordCount (front (drop read part))) part))
+  term-is =
+      passed owed (drop read part) (t .walking .walk .begins) h .terms-are
+      ∙ ap (λ (l : List ℕ). Cons (front (drop read part)) (terms (owed - 1) l)) (drop-drop (wordCount (front (drop read part))) read part)
+
+  term-here : Writing old at (leftCode rows under sets₀ (front part)) new place
+      (leftCode rows under sets (front (drop read part))
+      ++ words (lhs (rowsIn rows) under (setsAfter (rowsIn rows) sets (front (drop read part))) (terms (owed - 1) (drop (read + wordCount (front (drop read part))) part))))
+  term-here =
+      writing-as _
+      (ap (λ (us : Terms). words (lhs (rowsIn rows) under sets us)) term-is
+      ∙ words-⧺ (lhs (rowsIn rows) under sets (front (drop read part))) (lhs (rowsIn rows) under (setsAfter (rowsIn rows) sets (front (drop read part))) (terms (owed - 1) (drop (read + wordCount (front (drop read part))) part))))
+      (t .writing)
+
+  pub term-asked : Asked part rows old under sets₀ at → 131072 ≤ getD part read 0 → Asked (drop read part) rows new under sets place × (131072 ≤ getD (drop read part) 0 0)
+  term-asked a lo =
+      let z : read + 0 ≡ read = omega arith in
+      let g : getD (drop read part) 0 0 ≡ getD part read 0 = getD-drop read part 0 0 ∙ ap (λ (i : ℕ). getD part i 0) z in (
         record {
-          walking = walking-on (t .walking) h;
-          simple = rw i (simple-join under (symbol-step .arguments) (symbol-step .later) (s .0) (s .1));
-          coming = ap (setsAfter (rowsIn rows) sets) i ∙ setsAfter-join (rowsIn rows) sets (symbol-step .arguments) (symbol-step .later) ∙ sym (ap (setsAfter (rowsIn rows) sets) symbol-is) ∙ t .coming;
-          writing = writing-on (0 ∷ (getD part read 0 - 65536) ∷ getD part (read + 1) 0 ∷ []) _ symbol-here w;
-        }
+          begins = begins-less 1 (omega arith) (t .walking .walk .begins);
+          simple = (rw term-is at (t .simple)) .0;
+          shallow = a .shallow;
+          low = a .low;
+          few = a .few;
+          fits = fits-first (leftCode rows under sets (front (drop read part))) _ (term-here .fits);
+        },
+        omega arith,
+      )
 
-  -- what is asked for a subterm behind the words that stand now
-  asked-for : (inner : List ℕ) (n place′ : ℕ) (newer rest : List ℕ) → Asked part rows old under sets₀ at → Begins 1 inner → Simple n (front inner) → n < 64
-      → Fits newer place′ (leftCode rows n sets (front inner) ++ rest) → Asked inner rows newer n sets place′
-  asked-for inner n place′ newer rest a b s l f = record {
-    begins = b;
-    simple = s;
-    shallow = l;
-    low = a .low;
-    few = a .few;
-    fits = fits-first (leftCode rows n sets (front inner)) rest f;
-  }
-
-  -- an abstraction
-  module _ (v : getD part read 0 ≡ 196608) where
-    body-at : AtAbstraction part read owed
-    body-at = at-abstraction part read owed (t .walking .walk .begins) h v
-
-    abst-here : Writing old at (leftCode rows under sets₀ (front part)) new place
-        ((1 ∷ []) ++ (leftCode rows (suc under) sets (front (drop (read + 2) part))
-        ++ words (lhs (rowsIn rows) under (setsAfter (rowsIn rows) sets (front (drop (read + 2) part))) (terms (owed - 1) (drop (read + 2 + wordCount (front (drop (read + 2) part))) part)))))
-    abst-here = writing-as _ (words-first (rowsIn rows) under sets (body-at .terms-are)) (t .writing)
-
-    pub abst-fits : Fits new place (1 ∷ [])
-    abst-fits = fits-first (1 ∷ []) _ (abst-here .fits)
-
-    pub abst-low : under < 63
-    abst-low = simple-first under (body-at .terms-are) (t .simple) .0 .0
-
-    module _ {newer : List ℕ} {next : ℕ} (w : Wrote new newer place next (1 ∷ [])) where
-      body-here : Writing old at (leftCode rows under sets₀ (front part)) newer next
-          (leftCode rows (suc under) sets (front (drop (read + 2) part))
-          ++ words (lhs (rowsIn rows) under (setsAfter (rowsIn rows) sets (front (drop (read + 2) part))) (terms (owed - 1) (drop (read + 2 + wordCount (front (drop (read + 2) part))) part))))
-      body-here = writing-on (1 ∷ []) _ abst-here w
-
-      pub body-asked : Asked part rows old under sets₀ at → Asked (drop (read + 2) part) rows newer (under + 1) sets next
-      body-asked a =
-          let k = abst-low in
-          rw (add-one under)
-          (asked-for (drop (read + 2) part) (suc under) next newer _ a (body-at .body) (simple-first under (body-at .terms-are) (t .simple) .0 .1) (omega arith) (body-here .fits))
-
-      pub body-on : {newest : List ℕ} {r : Matched} → Done (drop (read + 2) part) rows newer newest (under + 1) sets next r
-          → Translating part rows old under sets₀ at (owed - 1) (read + (2 + r .read)) (r .sets) (r .next) newest
-      body-on {newest} {r} d =
-          let e = body-at .terms-are in
-          let i : read + (2 + r .read) ≡ read + 2 + wordCount (front (drop (read + 2) part)) = let q = d .read in omega arith in
-          rw (i, d .sets-left)
-          (record {
-            walking = walking-abstraction (t .walking) h v;
-            simple = simple-first under e (t .simple) .1;
-            coming = sym (ap (setsAfter (rowsIn rows) sets) e) ∙ t .coming;
-            writing = writing-on (leftCode rows (suc under) sets (front (drop (read + 2) part))) _ body-here (rw (add-one under) at (d .wrote));
-          })
-
-  -- a metavariable
-  module _ (lo : 131072 ≤ getD part read 0) (ne : (getD part read 0 ≡ 196608) → ⊥) where
-    term-is : terms owed (drop read part) ≡ Cons (front (drop read part)) (terms (owed - 1) (drop (read + wordCount (front (drop read part))) part))
-    term-is =
-        passed owed (drop read part) (t .walking .walk .begins) h .terms-are
-        ∙ ap (λ (l : List ℕ). Cons (front (drop read part)) (terms (owed - 1) l)) (drop-drop (wordCount (front (drop read part))) read part)
-
-    term-here : Writing old at (leftCode rows under sets₀ (front part)) new place
-        (leftCode rows under sets (front (drop read part))
-        ++ words (lhs (rowsIn rows) under (setsAfter (rowsIn rows) sets (front (drop read part))) (terms (owed - 1) (drop (read + wordCount (front (drop read part))) part))))
-    term-here = writing-as _ (words-first (rowsIn rows) under sets term-is) (t .writing)
-
-    pub meta-asked : Asked part rows old under sets₀ at → Asked (drop read part) rows new under sets place × Metavariable (drop read part)
-    meta-asked a =
-        let z : read + 0 ≡ read = omega arith in
-        let g : getD (drop read part) 0 0 ≡ getD part read 0 = getD-drop read part 0 0 ∙ ap (λ (i : ℕ). getD part i 0) z in
-        let k = last-word (t .walking .walk) h in (
-          asked-for (drop read part) under place new _ a (begins-less 1 (omega arith) (t .walking .walk .begins)) (simple-first under term-is (t .simple) .0) (a .shallow) (term-here .fits),
-          record { lowest = omega arith; highest = omega arith },
-        )
-
-    pub meta-on : {newer : List ℕ} {r : Matched} → Done (drop read part) rows new newer under sets place r
-        → Translating part rows old under sets₀ at (owed - 1) (read + r .read) (r .sets) (r .next) newer
-    meta-on {newer} {r} d =
+  module _ {newer : List ℕ} {r : Matched} (d : Done (drop read part) rows new newer under sets place r) where
+    pub term-on : Translating part rows old under sets₀ at (owed - 1) (read + r .read) (r .sets) (r .next) newer
+    term-on =
         rw (d .read, d .sets-left)
         (record {
           walking = walking-term (t .walking) h;
-          simple = simple-first under term-is (t .simple) .1;
+          simple = (rw term-is at (t .simple)) .1;
           coming = sym (ap (setsAfter (rowsIn rows) sets) term-is) ∙ t .coming;
           writing = writing-on (leftCode rows under sets (front (drop read part))) _ term-here (d .wrote);
         })
 
     -- it is passed over
-    pub meta-read : {newer : List ℕ} {r : Matched} → Done (drop read part) rows new newer under sets place r → read < read + r .read
-    meta-read d =
+    pub term-read : read < read + r .read
+    term-read =
         let b = begins-less 1 (omega arith) (t .walking .walk .begins) in
         let w = words-fit 1 (drop read part) b in
         let e : nodes (terms 1 (drop read part)) ≡ nodes (front (drop read part)) + 0 = ap (λ (x : Terms). nodes x) (front-term (drop read part) b) in
         let q = d .read in
         omega arith
+
+-- ---- An abstraction or a metavariable
+
+module _ {part rows code : List ℕ} {under sets at : ℕ} (a : Asked part rows code under sets at) where
+  pub term-words : 2 ≤ length part
+  term-words = in-table part 0 (a .begins) (omega arith)
+
+  pub is-metavariable : 131072 ≤ getD part 0 0 → (getD part 0 0 ≡ 196608 → ⊥) → Metavariable part
+  is-metavariable lo ne = let k = last-word (walk-from (a .begins)) (omega arith) in record { lowest = lo; highest = omega arith }
+
+  module _ (v : getD part 0 0 ≡ 196608) where
+    body-is : front part ≡ Abst (front (drop 2 part))
+    body-is = front-abstraction (a .begins) v
+
+    pub body-low : under < 63
+    body-low = (rw body-is at (a .simple)) .0
+
+    abst-here : Writing code at (leftCode rows under sets (front part)) code at ((1 ∷ []) ++ leftCode rows (suc under) sets (front (drop 2 part)))
+    abst-here = writing-as _ (ap (leftCode rows under sets) body-is) (writing-from (a .fits))
+
+    pub abst-fits : Fits code at (1 ∷ [])
+    abst-fits = fits-first (1 ∷ []) _ (abst-here .fits)
+
+    module _ {new : List ℕ} {inside : ℕ} (w : Wrote code new at inside (1 ∷ [])) where
+      body-here : Writing code at (leftCode rows under sets (front part)) new inside (leftCode rows (suc under) sets (front (drop 2 part)))
+      body-here = writing-on (1 ∷ []) _ abst-here w
+
+      pub body-asked : Asked (drop 2 part) rows new (under + 1) sets inside
+      body-asked =
+          let k = body-low in
+          rw (add-one under)
+          (record {
+            begins = at-abstraction part 0 1 (a .begins) (omega arith) v .body;
+            simple = (rw body-is at (a .simple)) .1;
+            shallow = omega arith;
+            low = a .low;
+            few = a .few;
+            fits = body-here .fits;
+          })
+
+      pub body-done : {newer : List ℕ} {r : Matched} → Done (drop 2 part) rows new newer (under + 1) sets inside r
+          → Done part rows code newer under sets at (record { read = 2 + r .read; sets = r .sets; next = r .next })
+      body-done {newer} {r} d = record {
+        read = let q = d .read in let e = ap (λ (t : Term). nodes t) body-is in omega arith;
+        sets-left = d .sets-left ∙ sym (ap (setsAfter (rowsIn rows) sets) body-is);
+        wrote = writing-last body-here (rw (add-one under) at (d .wrote));
+      }
+
+      -- its words are within the part
+      pub body-read : {newer : List ℕ} {r : Matched} → Done (drop 2 part) rows new newer (under + 1) sets inside r → 2 + r .read ≤ length part
+      body-read d =
+          let b = at-abstraction part 0 1 (a .begins) (omega arith) v .body in
+          let f = words-fit 1 (drop 2 part) b .1 in
+          let n : nodes (terms 1 (drop 2 part)) ≡ nodes (front (drop 2 part)) + 0 = ap (λ (x : Terms). nodes x) (front-term (drop 2 part) b) in
+          let l = length-drop 2 part in
+          let w = term-words in
+          let q = d .read in
+          omega arith

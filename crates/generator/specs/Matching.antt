@@ -1,13 +1,15 @@
 -- The code of a left side's subterm (004, section 6.1), as the generator is asked for it.
 use mathlib.Core.Path.{_≡_}
-use Prim.Native.Nat.{ℕ, _+_, _≤_, _<_}
-use mathlib.Core.Bool.{true}
+use Prim.Native.Nat.{ℕ, _+_, _-_, _≤_, _<_}
+use mathlib.Core.Bool.{true, cond}
 use mathlib.Core.List.{List}
+use lib.Dec.{ltb}
 use lib.ListN.{length, getD, take, drop}
+use Rattle.documents.specs.Limits.{kindStep}
 use Rattle.documents.specs.Lists.{pairlists}
 use Rattle.documents.specs.Terms.{Term}
 use Rattle.documents.specs.Rules.{areVars}
-use Rattle.documents.specs.Instructions.{NEXT, CHECK, SET, EQI, End, _▸_, words}
+use Rattle.documents.specs.Instructions.{IS, NEXT, CHECK, SET, EQVAR, EQI, End, _▸_, words}
 use Rattle.documents.specs.Translation.{unvar, offset, bvset, setsAfter, lhs}
 use Rattle.kahrs.proofs.Simple.{Simple}
 use Rattle.tables.specs.Parts.{terms, front, Begins, wordCount}
@@ -18,6 +20,10 @@ use Rattle.generator.specs.Written.{Fits, Wrote}
 -- the words of its code, under so many abstractions, with so many SETs still to come
 abbrev pub leftCode : List ℕ → ℕ → ℕ → Term → List ℕ
 leftCode rows under sets t = words (lhs (rowsIn rows) under sets t)
+
+-- the words of a variable's node, or of a symbol's
+abbrev pub plainCode : ℕ → ℕ → List ℕ
+plainCode word count = cond (ltb word kindStep) (words (EQVAR word ▸ NEXT ▸ End)) (words (IS (word - kindStep) count ▸ End))
 
 -- the first terms of a part, so many, are variables
 pub record Variables (n : ℕ) (part : List ℕ) : Type 0 where

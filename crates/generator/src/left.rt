@@ -14,18 +14,20 @@ use symbols::ABOVE;
 use symbols::ARGUMENTS;
 use symbols::Found;
 use symbols::ROW_WORDS;
+use symbols::find;
 use tables::compare::D_SHIFT;
 use tables::node::ABSTRACTION;
 use tables::node::FIRST_METAVARIABLE;
 use tables::node::FIRST_SYMBOL;
+use tables::side::occurs_among;
 ghost use Prim.Native.Nat.{_≤_};
-ghost use lib.ListN.{length, take};
+ghost use lib.ListN.{length, take, getD};
 ghost use Rattle.documents.specs.Lists.{pairlists};
 ghost use Rattle.documents.specs.Instructions.{pairWords};
 ghost use Rattle.documents.specs.Translation.{unvar, bvset};
 ghost use Rattle.tables.specs.Parts.{terms};
 ghost use Rattle.generator.specs.Written.{Fits, Wrote};
-ghost use Rattle.generator.specs.Matching.{Asked, Done, Metavariable, Variables, First, firstCode, Later, laterCode};
+ghost use Rattle.generator.specs.Matching.{Asked, Done, Metavariable, Variables, plainCode, First, firstCode, Later, laterCode};
 
 // The words of the subterm that was gone over, the SETs still to come behind it, and the place behind its code.
 pub struct Matched {
@@ -34,7 +36,8 @@ pub struct Matched {
     pub next: usize,
 }
 
-// The code of the subterm that a part begins with, under so many abstractions; `sets` is the number of SETs still to come.
+// The code of the subterm that a part begins with, under so many abstractions; `sets` is the number of SETs still to come. Nodes are passed by a
+// running count of the terms still owed; only an abstraction takes a call.
 pub fn left_side(
     part: &[u32],
     under: u32,
@@ -52,38 +55,58 @@ pub fn left_side(
     let mut place = at;
     while 0 < owed {
         let word = part[read];
-        let count = part[read + 1];
-        if word < FIRST_SYMBOL {
-            place = put_three(code, place, EQVAR, word, NEXT);
-            owed -= 1;
-            read += 2;
-            continue;
-        }
         if word < FIRST_METAVARIABLE {
-            place = put_three(code, place, IS, word - FIRST_SYMBOL, count);
+            let count = part[read + 1];
+            place = left_plain(word, count, code, place);
             owed = owed - 1 + count as usize;
             read += 2;
             continue;
         }
-        if word == ABSTRACTION {
-            let inside = put_one(code, place, ISABST);
-            let body = left_side(&part[read + 2..], under + 1, coming, rows, code, inside);
-            place = body.next;
-            coming = body.sets;
-            owed -= 1;
-            read += 2 + body.read;
-            continue;
-        }
-        let occurrence = left_metavariable(&part[read..], under, coming, rows, code, place);
-        place = occurrence.next;
-        coming = occurrence.sets;
+        let term = left_term(&part[read..], under, coming, rows, code, place);
         owed -= 1;
-        read += occurrence.read;
+        read += term.read;
+        coming = term.sets;
+        place = term.next;
     }
     Matched {
         read,
         sets: coming,
         next: place,
+    }
+}
+
+// A variable: EQVAR, NEXT. A symbol: IS.
+fn left_plain(word: u32, count: u32, code: &mut [u32], at: usize) -> usize
+    requires { ⌜ Fits (now code) at (plainCode word count) ⌝ }
+    ensures { λ r. ⌜ Wrote (now (code .entry)) (now (code .exit)) at r (plainCode word count) ⌝ }
+{
+    if word < FIRST_SYMBOL {
+        return put_three(code, at, EQVAR, word, NEXT);
+    }
+    put_three(code, at, IS, word - FIRST_SYMBOL, count)
+}
+
+// An abstraction, ISABST and its body; or a metavariable.
+fn left_term(
+    part: &[u32],
+    under: u32,
+    sets: usize,
+    rows: &[u32],
+    code: &mut [u32],
+    at: usize,
+) -> Matched
+    requires { ⌜ Asked (now part) (now rows) (now code) under sets at × (131072 ≤ getD (now part) 0 0) ⌝ }
+    ensures { λ r. ⌜ Done (now (part .entry)) (now (rows .entry)) (now (code .entry)) (now (code .exit)) under sets at r ⌝ }
+{
+    if part[0] != ABSTRACTION {
+        return left_metavariable(part, under, sets, rows, code, at);
+    }
+    let inside = put_one(code, at, ISABST);
+    let body = left_side(&part[2..], under + 1, sets, rows, code, inside);
+    Matched {
+        read: 2 + body.read,
+        sets: body.sets,
+        next: body.next,
     }
 }
 
@@ -101,34 +124,19 @@ fn left_metavariable(
 {
     let count = part[1];
     let read = 2 + 2 * count as usize;
-    let Found::At(location) = symbols::find(rows, part[0] - FIRST_METAVARIABLE, count) else {
-        return Matched {
-            read,
-            sets,
-            next: at,
-        };
+    let Found::At(location) = find(rows, part[0] - FIRST_METAVARIABLE, count) else {
+        let next = at;
+        return Matched { read, sets, next };
     };
     if location < sets {
-        return Matched {
-            read,
-            sets: sets - 1,
-            next: first_occurrence(&part[2..], count, under, code, at),
-        };
+        let next = first_occurrence(&part[2..], count, under, code, at);
+        let sets = sets - 1;
+        return Matched { read, sets, next };
     }
+    let row = &rows[ROW_WORDS * location..];
     let entry = (location - sets) as u32;
-    Matched {
-        read,
-        sets,
-        next: later_occurrence(
-            &rows[ROW_WORDS * location..],
-            &part[2..],
-            count,
-            under,
-            entry,
-            code,
-            at,
-        ),
-    }
+    let next = later_occurrence(row, &part[2..], count, under, entry, code, at);
+    Matched { read, sets, next }
 }
 
 // CHECK, SET, NEXT.
@@ -149,7 +157,7 @@ fn put_others(arguments: &[u32], count: u32, under: u32, code: &mut [u32], at: u
     let mut index: u32 = 0;
     let mut place = at;
     while index < under {
-        if tables::side::occurs_among(arguments, count, index) {
+        if occurs_among(arguments, count, index) {
             index += 1;
             continue;
         }

@@ -1,3 +1,4 @@
+-- `compile` meets document 01's call: a refusal of the sides is the call's, and what follows meets the call itself.
 use mathlib.Core.Path.{sym, _∙_}
 use Rattle.compiler.proofs.Called.{sides-accepted, call-refused}
 use borrow.Author.Needs.{needs}

@@ -1,3 +1,4 @@
+-- `generate` meets its contract: the left side's words and, behind them, the right side's are those of 004's `compile`.
 use Rattle.compiler.proofs.Generated.{left-asked, right-asked, generated}
 use borrow.Author.Needs.{needs}
 use Rattle.compiler.proofs.generate.Statement.{statement}

@@ -1,3 +1,4 @@
+-- `over_sixteen` meets its contract: no row is lent, so every metavariable is looked for on the left, and what is left of 8 is 9.
 use mathlib.Core.Path.{sym, _∙_}
 use borrow.Author.Tests.{not-true, not-false}
 use Rattle.tables.specs.Parts.{front}

@@ -1,3 +1,5 @@
+-- `translate` meets document 01's call for sides that are accepted so far. The table that was entered is the symbol table, or has no room for a
+-- seventeenth row; the length is that of the code, so the code table is written only if all of it fits.
 use mathlib.Core.Path.{refl, sym, _∙_}
 use native.Mathlib.Omega.{arith}
 use lib.ListN.{replicate}

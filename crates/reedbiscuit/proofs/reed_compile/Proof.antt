@@ -1,3 +1,5 @@
+-- `reedbiscuit::reed_compile` meets document 01's call. The struct holds the numbers that 01 gives to each case of the compiler's answer, and the
+-- compiler has written the code table.
 use borrow.Author.Needs.{needs}
 use Rattle.reedbiscuit.proofs.reed_compile.Statement.{statement}
 use Rattle.reedbiscuit.proofs.reed_compile.Tie as tie

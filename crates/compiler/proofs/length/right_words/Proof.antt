@@ -1,3 +1,5 @@
+-- `length::right_words` meets its contract: with the words of the terms still owed the sum is that of the subterm, and each node adds those of its own
+-- instructions.
 use Prim.Native.Nat.{_-_}
 use native.Mathlib.Omega.{arith}
 use lib.ListN.{length}

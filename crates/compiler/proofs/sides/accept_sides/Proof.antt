@@ -1,3 +1,5 @@
+-- `sides::accept_sides` meets its contract: a refused table is handed on, and each question is asked of accepted tables in 01's order, so a refusal is
+-- the first one that is due.
 use mathlib.Core.Path.{sym, _∙_}
 use borrow.Author.Tests.{not-true, not-false}
 use Rattle.documents.specs.Limits.{sideLimit}

@@ -1,3 +1,4 @@
+-- `sides::both_closed` meets its contract: the right side is asked only if the left one is closed.
 use mathlib.Core.Path.{sym, _∙_}
 use borrow.Author.Tests.{not-true, not-false}
 use borrow.Author.Needs.{needs}

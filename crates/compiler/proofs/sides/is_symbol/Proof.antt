@@ -1,3 +1,4 @@
+-- `sides::is_symbol` meets its contract: the root's first word tells its kind.
 use mathlib.Core.Path.{sym, ap}
 use native.Mathlib.Omega.{arith}
 use Rattle.documents.specs.Rules.{isSymbol}

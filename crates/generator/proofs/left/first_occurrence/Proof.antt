@@ -1,3 +1,5 @@
+-- `left::first_occurrence` meets its contract: CHECK and the number of the other indices, these, then SET and NEXT are the words in their order.
+-- That number is what the arguments, which are distinct and below the bound, leave of it.
 use Rattle.generator.proofs.Matching.{first-check, first-list, first-ends, first-written}
 use borrow.Author.Needs.{needs}
 use Rattle.generator.proofs.left.first_occurrence.Statement.{statement}

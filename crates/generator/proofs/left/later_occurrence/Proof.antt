@@ -1,3 +1,4 @@
+-- `left::later_occurrence` meets its contract: EQI's fixed words, the pairs, and NEXT are the words in their order.
 use native.Mathlib.Omega.{arith}
 use lib.ListN.{length-drop}
 use Rattle.tables.proofs.Parts.{from-drop}

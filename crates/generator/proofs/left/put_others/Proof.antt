@@ -1,3 +1,5 @@
+-- `left::put_others` meets its contract. The indices from the loop's on are still to be looked at: one that is an argument adds nothing to the
+-- list, any other is its next word.
 use mathlib.Core.Path.{sym, _∙_}
 use Prim.Native.Nat.{_-_}
 use native.Mathlib.Omega.{arith}

@@ -1,3 +1,4 @@
+-- `put::put_three` meets its contract: each store is one place behind the one before, as words in a row are.
 use mathlib.Core.Path.{refl}
 use native.Mathlib.Numerals.{add-one, add-two}
 use native.Mathlib.Omega.{arith}

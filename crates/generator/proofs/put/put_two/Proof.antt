@@ -1,3 +1,4 @@
+-- `put::put_two` meets its contract: the second store is one place behind the first, as words in a row are.
 use mathlib.Core.Path.{refl}
 use native.Mathlib.Numerals.{add-one}
 use native.Mathlib.Omega.{arith}
