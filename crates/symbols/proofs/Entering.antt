@@ -1,7 +1,8 @@
--- A walk that enters the metavariables of a left side's subterm, in the code's form: what the table will be at the end is what the terms still owed
--- make of the rows that are there, and the words of the code are those counted and those of the terms still owed. One law for each way through the loop.
+-- Entering the metavariables of a left side's subterm, in the code's form: at an abstraction or a metavariable that a part begins with, and in a walk.
+-- There what the table will be at the end is what the terms still owed make of the rows that are there, and the words of the code are those counted and
+-- those of the terms still owed. One law for each way through the loop.
 use mathlib.Core.Path.{_≡_, refl, sym, ap, _∙_}
-use Prim.Native.Nat.{ℕ, zero, suc, _+_, _-_, _*_, _/_, _%_, _≤_, _<_}
+use Prim.Native.Nat.{ℕ, zero, suc, _+_, _-_, _*_, _/_, _≤_, _<_}
 use native.Mathlib.Numerals.{add-one}
 use native.Mathlib.Omega.{arith}
 use mathlib.Core.Bool.{Bool, true, false, cond}
@@ -9,7 +10,7 @@ use mathlib.Core.Option.{Option, none, some}
 use mathlib.Core.List.{List, [], _∷_}
 use lib.Dec.{leb}
 use lib.ListN.{length, drop, getD, length-drop}
-use lib.Seq.{sets, drop-drop, length-sets}
+use lib.Seq.{sets, drop-drop, getD-drop, length-sets}
 use borrow.Author.Tests.{le-leb, lt-leb, leb-true, leb-false}
 use Rattle.documents.specs.Limits.{metavariableLimit}
 use Rattle.documents.specs.Terms.{Var, Sym, Meta, Abst, Nil, Cons, Term, Terms, len}
@@ -17,21 +18,20 @@ use Rattle.documents.specs.Tables.{nodes}
 use Rattle.documents.specs.Rules.{areVars}
 use Rattle.documents.specs.Translation.{Row, row, Located, lookup, unvar, enter, update}
 use Rattle.documents.proofs.Lists.{never}
-use Rattle.kahrs.proofs.Places.{Distinct, Under}
 use Rattle.kahrs.proofs.Simple.{vars, len-vars, unvar-vars, update-arguments, Simple}
 use Rattle.compiled.specs.Length.{occurrenceWords, leftWords}
 use Rattle.compiled.proofs.Unlisted.{distinct-few}
 use Rattle.compiled.proofs.Rows.{length-update}
 use Rattle.compiled.proofs.WordCount.{left-short}
 use Rattle.tables.specs.Parts.{terms, front, Begins, wordCount}
-use Rattle.tables.proofs.Parts.{join, Step, step, passed, front-term, begins-less, begins-inside, from, from-drop}
-use Rattle.tables.proofs.Walks.{at-abstraction, ended, Walking, walking-from, walking-on, walking-abstraction, walking-term, walking-ended}
-use Rattle.tables.proofs.Sides.{arguments-are}
+use Rattle.tables.proofs.Parts.{join, Step, step, passed, front-term, words-fit, in-table, begins-less, from, from-drop}
+use Rattle.tables.proofs.Walks.{at-abstraction, walk-from, ended, Walking, walking-from, walking-on, walking-term, walking-ended}
+use Rattle.tables.proofs.Fronts.{last-word, root, arguments-begin, argument-count, front-metavariable, front-abstraction}
 use Rattle.symbols.specs.declared.Found.the-variants.{At, Nothing}
 use Rattle.symbols.specs.declared.Entered.{Entered}
 use Rattle.symbols.specs.declared.Entered.the-variants.{Words, Full}
 use Rattle.symbols.specs.Rows.{rowsIn, foundIn}
-use Rattle.symbols.specs.Entries.{Table, beginning, entered, Enters, isFound}
+use Rattle.symbols.specs.Entries.{Table, Enterable, beginning, entered, Enters, isFound}
 use Rattle.symbols.proofs.Stored.{length-rows, row-written}
 use Rattle.symbols.proofs.Located.{is-nothing, is-found}
 
@@ -65,18 +65,18 @@ module _ (n : ℕ) (t : Term) (rows : List Row) where
     entries = λ k. absurd (omega arith);
   }
 
+  is-words : (table : List ℕ) (read place more : ℕ) → length (update n t rows) ≤ metavariableLimit → rowsIn (drop place table) ≡ update n t rows
+      → read ≡ wordCount t → place ≡ beginning (update n t rows) → more ≡ leftWords n t rows → Enters n t rows table (Words read place more)
+  unfolding entered
+  is-words table read place more fit e p b q = record { answer = rw (le-leb (length (update n t rows)) metavariableLimit fit, p, q, b); entries = λ h. rw (← b) e }
+
   is-entered : (table : List ℕ) (read place more : ℕ) → Table table place → rowsIn (drop place table) ≡ update n t rows → read ≡ wordCount t → more ≡ leftWords n t rows
       → Enters n t rows table (Words read place more)
-  unfolding entered
   is-entered table read place more s e p q =
       let l = length-rows (drop place table) in
       let d = length-drop place table in
       let k : length (rowsIn (drop place table)) ≡ length (update n t rows) = ap (λ (rs : List Row). length rs) e in
-      let b : place ≡ beginning (update n t rows) = omega arith in
-      record {
-        answer = rw (le-leb (length (update n t rows)) metavariableLimit (omega arith), p, q, b);
-        entries = λ h. rw (← b) e;
-      }
+      is-words table read place more (omega arith) e p (omega arith) q
 
 -- ---- Terms before others
 
@@ -125,60 +125,154 @@ areVars-vars : (l : List ℕ) → areVars (vars l) ≡ true
 areVars-vars [] = refl
 areVars-vars (x ∷ l) = areVars-vars l
 
-meta-step : {k s c w : ℕ} {ts us : Terms} (n : ℕ) (p : Step k s c ts us) → w / 65536 ≡ k → w % 65536 ≡ s → 131072 ≤ w → ((w ≡ 196608) → ⊥) → Simple n ts
-    → (l : List ℕ) × (p .arguments ≡ vars l) × Distinct l × Under n l × (ts ≡ Cons (Meta s (p .arguments)) (p .later)) × (s ≡ w - 131072)
-meta-step {k = zero} n p e f lo ne q = absurd (omega arith)
-meta-step {k = suc zero} n p e f lo ne q = absurd (omega arith)
-meta-step {k = suc (suc zero)} {s = s} n p e f lo ne q =
-    let m : Simple n (Cons (Meta s (p .arguments)) (p .later)) = rw (p .node) at q in
-    (m .0 .0, m .0 .1, m .0 .2, m .0 .3, p .node, omega arith)
-meta-step {k = suc (suc (suc zero))} n p e f lo ne q = let z = p .shape .0 in absurd (ne (omega arith))
-meta-step {k = suc (suc (suc (suc k)))} n p e f lo ne q = absurd (p .shape)
-
--- a metavariable of a simple term, and the terms behind it
-record AtMetavariable (n : ℕ) (t : List ℕ) (a owed : ℕ) : Type 0 where
+-- a part that begins with a metavariable of a simple term
+record Met (n : ℕ) (part : List ℕ) : Type 0 where
   list : List ℕ
-  arguments : terms (getD t (a + 1) 0) (drop (a + 2) t) ≡ vars list
-  count : length list ≡ getD t (a + 1) 0
-  narrow : getD t (a + 1) 0 ≤ 8
-  few : getD t (a + 1) 0 ≤ n
-  terms-are : terms owed (drop a t) ≡ Cons (Meta (getD t a 0 - 131072) (vars list)) (terms (owed - 1) (drop (a + 2 + 2 * getD t (a + 1) 0) t))
-  simple : Simple n (terms (owed - 1) (drop (a + 2 + 2 * getD t (a + 1) 0) t))
-  word-count : wordCount (front (drop a t)) ≡ 2 + 2 * getD t (a + 1) 0
+  arguments : terms (getD part 1 0) (drop 2 part) ≡ vars list
+  count : length list ≡ getD part 1 0
+  few : getD part 1 0 ≤ n
+  term : front part ≡ Meta (getD part 0 0 - 131072) (vars list)
+  word-count : 2 + 2 * getD part 1 0 ≡ wordCount (front part)
 
-at-metavariable : (n : ℕ) (t : List ℕ) (a owed : ℕ) → Begins owed (drop a t) → 0 < owed → 131072 ≤ getD t a 0 → (getD t a 0 ≡ 196608 → ⊥)
-    → Simple n (terms owed (drop a t)) → AtMetavariable n t a owed
-at-metavariable n t a owed b h lo ne s =
-    let p = step t a owed b h in
-    let (l, e, d, u, g, z) = meta-step n p refl refl lo ne s in
-    let c : length l ≡ getD t (a + 1) 0 = sym (len-vars l) ∙ ap len (sym e) ∙ p .count in
-    let q = passed owed (drop a t) b h .terms-are in
-    let f : front (drop a t) ≡ Meta (getD t a 0 % 65536) (p .arguments) = cc in
-    let v : nodes (p .arguments) ≡ length l = ap (λ (x : Terms). nodes x) e ∙ nodes-vars l in
-    let w : wordCount (front (drop a t)) ≡ 2 + 2 * getD t (a + 1) 0 = let k : nodes (front (drop a t)) ≡ suc (nodes (p .arguments)) = ap (λ (x : Term). nodes x) f in omega arith in
-    let i : a + wordCount (front (drop a t)) ≡ a + 2 + 2 * getD t (a + 1) 0 = omega arith in
-    let r : drop (wordCount (front (drop a t))) (drop a t) ≡ drop (a + 2 + 2 * getD t (a + 1) 0) t = drop-drop (wordCount (front (drop a t))) a t ∙ ap (λ (x : ℕ). drop x t) i in
-    let m : terms owed (drop a t) ≡ Cons (Meta (getD t a 0 - 131072) (vars l)) (terms (owed - 1) (drop (a + 2 + 2 * getD t (a + 1) 0) t)) = cc in
-    let o : Simple n (Cons (Meta (getD t a 0 - 131072) (vars l)) (terms (owed - 1) (drop (a + 2 + 2 * getD t (a + 1) 0) t))) = rw m at s in
+met-at : (n : ℕ) (part : List ℕ) → Begins 1 part → 131072 ≤ getD part 0 0 → getD part 0 0 < 196608 → Simple n (front part) → Met n part
+met-at n part b lo hi s =
+    let t = front-metavariable b lo hi in
+    let (l, e, d, u) = rw t at s in
+    let c : length l ≡ getD part 1 0 = sym (len-vars l) ∙ ap len (sym e) ∙ argument-count b in
+    let f : front part ≡ Meta (getD part 0 0 - 131072) (vars l) = cc in
     record {
       list = l;
-      arguments = arguments-are _ _ p ∙ e;
+      arguments = e;
       count = c;
-      narrow = p .narrow;
       few = let k = distinct-few n l d u in omega arith;
-      terms-are = m;
-      simple = o .1;
-      word-count = w;
+      term = f;
+      word-count = let k : nodes (front part) ≡ suc (nodes (vars l)) = ap (λ (x : Term). nodes x) f in let v = nodes-vars l in omega arith;
     }
 
--- what it makes of rows, and its words
-meta-entries : (n z c : ℕ) (l : List ℕ) (us : Terms) (rows : List Row) → length l ≡ c
-    → update n (Cons (Meta z (vars l)) us) rows ≡ update n us (enter (lookup z c rows) (row z c n l) rows)
-meta-entries n z c l us rows e = rw (update-arguments n (vars l) l refl, len-vars l, unvar-vars l, e)
+-- what it makes of rows
+meta-entries : (n z c : ℕ) (l : List ℕ) (rows : List Row) → length l ≡ c → update n (Meta z (vars l)) rows ≡ enter (lookup z c rows) (row z c n l) rows
+meta-entries n z c l rows e = rw (update-arguments n (vars l) l refl, len-vars l, unvar-vars l, e)
 
-meta-counts : (n z c : ℕ) (l : List ℕ) (us : Terms) (rows : List Row) → length l ≡ c
-    → leftWords n (Cons (Meta z (vars l)) us) rows ≡ occurrenceWords n c (lookup z c rows) + leftWords n us (enter (lookup z c rows) (row z c n l) rows)
-meta-counts n z c l us rows e = rw (update-arguments n (vars l) l refl, len-vars l, unvar-vars l, e)
+-- ---- The subterm that a part begins with
+
+module _ {part : List ℕ} {under : ℕ} {table : List ℕ} {first : ℕ} (g : Enterable part under table first) where
+  abbrev here : List Row
+  here = rowsIn (drop first table)
+
+  -- a node has two words
+  pub root-words : 2 ≤ length part
+  root-words = in-table part 0 (g .begins) (omega arith)
+
+  -- what was gone over has a node's words at least and is within the part; its code has at most 67 words a node
+  pub words-within : {left : List ℕ} {r : Entered} {read place more : ℕ} → Enters under (front part) here left r → r ≡ Words read place more
+      → (2 ≤ read) × (read ≤ length part) × (more ≤ 17152)
+  words-within {read = read} {place} {more} e f =
+      let (fit, q, p, m) = entered-words under (front part) here read place more (sym f ∙ e .answer) in
+      let w = words-fit 1 part (g .begins) in
+      let n : nodes (terms 1 part) ≡ nodes (front part) + 0 = ap (λ (ts : Terms). nodes ts) (front-term part (g .begins)) in
+      let k = left-short under (front part) here (g .low) (g .simple) in
+      let s = g .short in
+      (omega arith, omega arith, omega arith)
+
+  pub below-abstraction : (getD part 0 0 ≡ 196608 → ⊥) → getD part 0 0 < 196608
+  below-abstraction ne = let k = last-word (walk-from (g .begins)) (omega arith) in omega arith
+
+  -- an abstraction, and its body
+  module _ (v : getD part 0 0 ≡ 196608) where
+    abbrev body : Term
+    body = front (from 2 part)
+
+    is-abstraction : front part ≡ Abst body
+    is-abstraction = rw (from-drop 2 part) (front-abstraction (g .begins) v)
+
+    simple-abstraction : Simple under (Abst body)
+    simple-abstraction = rw is-abstraction at (g .simple)
+
+    pub body-enterable : Enterable (from 2 part) (under + 1) table first
+    body-enterable = record {
+      begins = rw from-drop (at-abstraction part 0 1 (g .begins) (omega arith) v .body);
+      simple = rw (add-one under) (simple-abstraction .1);
+      low = let k = simple-abstraction .0 in omega arith;
+      short = let s = g .short in rw (from-drop, length-drop) (omega arith);
+      sound = g .sound;
+    }
+
+    module _ {left : List ℕ} {r : Entered} (e : Enters (under + 1) body here left r) where
+      pub body-full : r ≡ Full → Enters under (front part) here left Full
+      body-full f =
+          let k = entered-full (under + 1) body here (sym f ∙ e .answer) in
+          rw is-abstraction (is-full under (Abst body) here left (rw (add-one under) at k))
+
+      pub body-entered : {read place more : ℕ} → r ≡ Words read place more → Enters under (front part) here left (Words (2 + read) place (1 + more))
+      body-entered {read} {place} {more} f =
+          let (fit, q, p, m) = entered-words (under + 1) body here read place more (sym f ∙ e .answer) in
+          let o : rowsIn (drop place left) ≡ update (under + 1) body here = rw p (e .entries fit) in
+          rw is-abstraction
+          (is-words under (Abst body) here left (2 + read) place (1 + more) (rw (add-one under) at fit) (rw (add-one under) at o) (omega arith) (rw (add-one under) at p) (ap (λ (k : ℕ). 1 + k) (rw (add-one under) at m)))
+
+  -- a metavariable
+  module _ (lo : 131072 ≤ getD part 0 0) (hi : getD part 0 0 < 196608) where
+    abbrev name : ℕ
+    name = getD part 0 0 - 131072
+
+    abbrev count : ℕ
+    count = getD part 1 0
+
+    met : Met under part
+    met = met-at under part (g .begins) lo hi (g .simple)
+
+    pub arguments-narrow : count ≤ 8
+    arguments-narrow = root (g .begins) .narrow
+
+    pub arguments-few : count ≤ under
+    arguments-few = met .few
+
+    pub arguments-variables : Begins count (from 2 part) × (areVars (terms count (from 2 part)) ≡ true)
+    arguments-variables = (rw from-drop (arguments-begin (g .begins)), rw (from-drop 2 part, met .arguments) (areVars-vars (met .list)))
+
+    met-entries : (o : Option Located) → lookup name count here ≡ o → enter o (row name count under (met .list)) here ≡ update under (front part) here
+    met-entries o q = rw (← q, met .term) (sym (meta-entries under name count (met .list) here (met .count)))
+
+    met-counts : (o : Option Located) → lookup name count here ≡ o → occurrenceWords under count o ≡ leftWords under (front part) here
+    met-counts o q = rw (← q, met .term, len-vars (met .list), met .count)
+
+    -- one that has a row
+    pub later-entered : (l : ℕ) → At l ≡ foundIn (lookup name count (rowsIn (from first table)))
+        → Enters under (front part) here table (Words (2 + 2 * count) first (5 + 2 * count))
+    later-entered l a = go (lookup name count here) refl (is-found (lookup name count here) l (rw (from-drop first table) at a))
+      where
+        go : (o : Option Located) → lookup name count here ≡ o → isFound o ≡ true
+            → Enters under (front part) here table (Words (2 + 2 * count) first (5 + 2 * count))
+        go none q f = never (cc)
+        go (some x) q f =
+            is-entered under (front part) here table (2 + 2 * count) first (5 + 2 * count) (g .sound) (met-entries (some x) q) (met .word-count) (met-counts (some x) q)
+
+    -- one that has none
+    module _ (a : Nothing ≡ foundIn (lookup name count (rowsIn (from first table)))) where
+      missing : lookup name count here ≡ none
+      missing = is-nothing (lookup name count here) (rw (from-drop first table) at a)
+
+      -- where there is no room for it
+      pub first-full : first ≡ 0 → Enters under (front part) here table Full
+      first-full z =
+          let l = length-rows (drop first table) in
+          let d = length-drop first table in
+          let s = g .sound .size in
+          let k : suc (length here) ≡ length (update under (front part) here) = ap (λ (rs : List Row). length rs) (met-entries none missing) in
+          is-full under (front part) here table (omega arith)
+
+      -- where there is
+      pub first-entered : (left : List ℕ) → (first ≡ 0 → ⊥) → left ≡ sets table (first - 11) (name ∷ count ∷ under ∷ unvar (terms count (from 2 part)))
+          → Enters under (front part) here left (Words (2 + 2 * count) (first - 11) (4 + (under - count)))
+      first-entered left z w =
+          let r : 11 ≤ first = let p = g .sound .place in omega arith in
+          let s = g .sound in
+          let u : unvar (terms count (from 2 part)) ≡ met .list = rw (from-drop 2 part, met .arguments) (unvar-vars (met .list)) in
+          let e : left ≡ sets table (first - 11) (name ∷ count ∷ under ∷ met .list) = rw u at w in
+          let k : first - 11 + 11 ≡ first = omega arith in
+          let o : rowsIn (drop (first - 11) left) ≡ row name count under (met .list) ∷ here = rw (e, row-written table (first - 11) name count under (met .list) (met .count) arguments-narrow (omega arith), k) in
+          let t : Table left (first - 11) = record { size = rw (e, length-sets table (first - 11) (name ∷ count ∷ under ∷ met .list)) (s .size); place = omega arith; within = omega arith } in
+          is-entered under (front part) here left (2 + 2 * count) (first - 11) (4 + (under - count)) t (o ∙ met-entries none missing) (met .word-count) (met-counts none missing)
 
 -- ---- The walk
 
@@ -193,18 +287,19 @@ pub record Entering (part : List ℕ) (under : ℕ) (rows : List Row) (table : L
   -- 67 words a node
   pub few : leftWords under (front part) rows ≤ 17152
 
-pub entering-from : {part : List ℕ} {under : ℕ} {table : List ℕ} {first : ℕ} → Begins 1 part → Simple under (front part) → under < 64 → length part ≤ 512 → Table table first
+pub entering-from : {part : List ℕ} {under : ℕ} {table : List ℕ} {first : ℕ} → Enterable part under table first
     → Entering part under (rowsIn (drop first table)) table 1 0 first 0
-entering-from {part} {under} {table} {first} b s lo sh t =
-    let e = front-term part b in
-    let k = left-short under (front part) (rowsIn (drop first table)) lo s in
-    let f = walking-from b in
+entering-from {part} {under} {table} {first} g =
+    let e = front-term part (g .begins) in
+    let k = left-short under (front part) (rowsIn (drop first table)) (g .low) (g .simple) in
+    let f = walking-from (g .begins) in
+    let s = g .short in
     record {
       walk = f;
-      simple = rw e (s, tt);
-      low = lo;
-      short = sh;
-      sound = t;
+      simple = rw e (g .simple, tt);
+      low = g .low;
+      short = s;
+      sound = g .sound;
       entries = rw e;
       counts = rw e (omega arith);
       few = let r = f .room in omega arith;
@@ -240,59 +335,57 @@ module _ {part : List ℕ} {under : ℕ} {rows : List Row} {table : List ℕ} {o
         few = e .few;
       }
 
-  -- an abstraction's body
-  module _ (v : getD part at 0 ≡ 196608) where
-    abbrev body : Term
-    body = front (drop (at + 2) part)
+  -- past a whole term
+  abbrev behind : Terms
+  behind = terms (owed - 1) (drop (at + wordCount (front (from at part))) part)
 
-    abbrev behind : Terms
-    behind = terms (owed - 1) (drop (at + 2 + wordCount body) part)
+  terms-are : terms owed (drop at part) ≡ Cons (front (from at part)) behind
+  terms-are =
+      let d = drop-drop (wordCount (front (drop at part))) at part in
+      rw from-drop (rw d at (passed owed (drop at part) (e .walk .walk .begins) h .terms-are))
 
-    simple-abstraction : Simple under (Cons (Abst body) behind)
-    simple-abstraction = let t = at-abstraction part at owed (e .walk .walk .begins) h v .terms-are in rw t at (e .simple)
+  simple-term : Simple under (Cons (front (from at part)) behind)
+  simple-term = rw terms-are at (e .simple)
 
-    pub body-simple : Simple (under + 1) (front (from (at + 2) part))
-    body-simple = rw (from-drop (at + 2) part, add-one under) (simple-abstraction .0 .1)
+  pub term-enterable : Enterable (from at part) under table first
+  term-enterable = record {
+    begins = rw from-drop (begins-less 1 (omega arith) (e .walk .walk .begins));
+    simple = simple-term .0;
+    low = e .low;
+    short = let s = e .short in rw (from-drop, length-drop) (omega arith);
+    sound = e .sound;
+  }
 
-    pub body-low : under + 1 < 64
-    body-low = let k = simple-abstraction .0 .0 in omega arith
+  pub first-word : getD (from at part) 0 0 ≡ getD part at 0
+  first-word = let k : at + 0 ≡ at = omega arith in rw (from-drop at part, getD-drop at part 0 0, k)
 
-    pub body-begins : Begins 1 (from (at + 2) part)
-    body-begins = rw (from-drop (at + 2) part) (at-abstraction part at owed (e .walk .walk .begins) h v .body)
+  abbrev after : List Row
+  after = update under (front (from at part)) (rowsIn (drop first table))
 
-    abbrev after : List Row
-    after = update (under + 1) (front (from (at + 2) part)) (rowsIn (drop first table))
+  after-entries : update under behind after ≡ update under (front part) rows
+  after-entries = rw terms-are at (e .entries)
 
-    after-entries : update under behind after ≡ update under (front part) rows
-    after-entries =
-        let t = at-abstraction part at owed (e .walk .walk .begins) h v .terms-are in
-        rw (from-drop (at + 2) part, add-one under) (rw t at (e .entries))
+  after-counts : words + (leftWords under (front (from at part)) (rowsIn (drop first table)) + leftWords under behind after) ≡ leftWords under (front part) rows
+  after-counts = rw terms-are at (e .counts)
 
-    after-counts : words + (1 + leftWords (under + 1) (front (from (at + 2) part)) (rowsIn (drop first table)) + leftWords under behind after) ≡ leftWords under (front part) rows
-    after-counts =
-        let t = at-abstraction part at owed (e .walk .walk .begins) h v .terms-are in
-        rw (from-drop (at + 2) part, add-one under) (rw t at (e .counts))
-
-    pub body-full : {left : List ℕ} {r : Entered} → Enters (under + 1) (front (from (at + 2) part)) (rowsIn (drop first table)) left r → r ≡ Full
-        → Enters under (front part) rows left Full
-    body-full {left} r f =
-        let k = entered-full (under + 1) (front (from (at + 2) part)) (rowsIn (drop first table)) (sym f ∙ r .answer) in
+  module _ {left : List ℕ} {r : Entered} (t : Enters under (front (from at part)) (rowsIn (drop first table)) left r) where
+    pub term-full : r ≡ Full → Enters under (front part) rows left Full
+    term-full f =
+        let k = entered-full under (front (from at part)) (rowsIn (drop first table)) (sym f ∙ t .answer) in
         let g = length-update under behind after in
         let a : length (update under behind after) ≡ length (update under (front part) rows) = ap (λ (rs : List Row). length rs) after-entries in
         is-full under (front part) rows left (omega arith)
 
-    pub entering-body : {left : List ℕ} {r : Entered} {read place more : ℕ} → length left ≡ length table
-        → Enters (under + 1) (front (from (at + 2) part)) (rowsIn (drop first table)) left r → r ≡ Words read place more
-        → Entering part under rows left (owed - 1) (at + 2 + read) place (words + (1 + more))
-    entering-body {left} {r = o} {read} {place} {more} s r f =
-        let (fit, q, p, m) = entered-words (under + 1) (front (from (at + 2) part)) (rowsIn (drop first table)) read place more (sym f ∙ r .answer) in
-        let w : read ≡ wordCount body = rw (from-drop (at + 2) part) at q in
-        let o : rowsIn (drop place left) ≡ after = rw p (r .entries fit) in
+    pub entering-term : {read place more : ℕ} → length left ≡ length table → r ≡ Words read place more
+        → Entering part under rows left (owed - 1) (at + read) place (words + more)
+    entering-term {read} {place} {more} s f =
+        let (fit, w, p, m) = entered-words under (front (from at part)) (rowsIn (drop first table)) read place more (sym f ∙ t .answer) in
+        let o : rowsIn (drop place left) ≡ after = rw p (t .entries fit) in
         let c = after-counts in
         let z = e .sound .size in
         rw w (record {
-          walk = walking-abstraction (e .walk) h v;
-          simple = simple-abstraction .1;
+          walk = rw from-drop (walking-term (e .walk) h);
+          simple = simple-term .1;
           low = e .low;
           short = e .short;
           sound = record { size = s ∙ z; place = omega arith; within = omega arith };
@@ -300,102 +393,3 @@ module _ {part : List ℕ} {under : ℕ} {rows : List Row} {table : List ℕ} {o
           counts = rw (o, m) (omega arith);
           few = e .few;
         })
-
-  -- a metavariable
-  module _ (lo : 131072 ≤ getD part at 0) (ne : getD part at 0 ≡ 196608 → ⊥) where
-    abbrev name : ℕ
-    name = getD part at 0 - 131072
-
-    abbrev count : ℕ
-    count = getD part (at + 1) 0
-
-    abbrev here : List Row
-    here = rowsIn (drop first table)
-
-    met : AtMetavariable under part at owed
-    met = at-metavariable under part at owed (e .walk .walk .begins) h lo ne (e .simple)
-
-    pub arguments-begin : Begins count (from (at + 2) part)
-    arguments-begin = rw (from-drop (at + 2) part) (begins-less count (omega arith) (begins-inside part at owed (e .walk .walk .begins) h))
-
-    pub arguments-variables : areVars (terms count (from (at + 2) part)) ≡ true
-    arguments-variables = rw (from-drop (at + 2) part, met .arguments) (areVars-vars (met .list))
-
-    pub arguments-few : count ≤ under
-    arguments-few = met .few
-
-    walk-met : Walking part (owed - 1) (at + 2 + 2 * count)
-    walk-met = let k : at + wordCount (front (drop at part)) ≡ at + 2 + 2 * count = let q = met .word-count in omega arith in rw k at (walking-term (e .walk) h)
-
-    abbrev others : Terms
-    others = terms (owed - 1) (drop (at + 2 + 2 * count) part)
-
-    met-entries : (o : Option Located) → lookup name count here ≡ o → update under others (enter o (row name count under (met .list)) here) ≡ update under (front part) rows
-    met-entries o q =
-        rw (← q) (sym (meta-entries under name count (met .list) others here (met .count)))
-        ∙ ap (λ (ts : Terms). update under ts here) (sym (met .terms-are)) ∙ e .entries
-
-    met-counts : (o : Option Located) → lookup name count here ≡ o
-        → words + (occurrenceWords under count o + leftWords under others (enter o (row name count under (met .list)) here)) ≡ leftWords under (front part) rows
-    met-counts o q =
-        ap (λ (k : ℕ). words + k)
-        (rw (← q) (sym (meta-counts under name count (met .list) others here (met .count))) ∙ ap (λ (ts : Terms). leftWords under ts here) (sym (met .terms-are)))
-        ∙ e .counts
-
-    -- one that has a row
-    pub entering-later : (l : ℕ) → At l ≡ foundIn (lookup name count (rowsIn (from first table)))
-        → Entering part under rows table (owed - 1) (at + 2 + 2 * count) first (words + (5 + 2 * count))
-    entering-later l a = go (lookup name count here) refl (is-found (lookup name count here) l (rw (from-drop first table) at a))
-      where
-        go : (o : Option Located) → lookup name count here ≡ o → isFound o ≡ true
-            → Entering part under rows table (owed - 1) (at + 2 + 2 * count) first (words + (5 + 2 * count))
-        go none q f = never (cc)
-        go (some x) q f = record {
-          walk = walk-met;
-          simple = met .simple;
-          low = e .low;
-          short = e .short;
-          sound = e .sound;
-          entries = met-entries (some x) q;
-          counts = let k = met-counts (some x) q in omega arith;
-          few = e .few;
-        }
-
-    -- one that has none
-    module _ (a : Nothing ≡ foundIn (lookup name count (rowsIn (from first table)))) where
-      missing : lookup name count here ≡ none
-      missing = is-nothing (lookup name count here) (rw (from-drop first table) at a)
-
-      -- where there is no room for it
-      pub entering-full : first ≡ 0 → Enters under (front part) rows table Full
-      entering-full z =
-          let l = length-rows (drop first table) in
-          let d = length-drop first table in
-          let s = e .sound .size in
-          let g = length-update under others (row name count under (met .list) ∷ here) in
-          let k : length (update under others (row name count under (met .list) ∷ here)) ≡ length (update under (front part) rows) = ap (λ (rs : List Row). length rs) (met-entries none missing) in
-          is-full under (front part) rows table (omega arith)
-
-      room-before : (first ≡ 0 → ⊥) → 11 ≤ first
-      room-before z = let p = e .sound .place in omega arith
-
-      -- where there is
-      pub entering-first : (left : List ℕ) → (first ≡ 0 → ⊥) → left ≡ sets table (first - 11) (name ∷ count ∷ under ∷ unvar (terms count (from (at + 2) part)))
-          → Entering part under rows left (owed - 1) (at + 2 + 2 * count) (first - 11) (words + (4 + (under - count)))
-      entering-first left z w =
-          let r = room-before z in
-          let s = e .sound in
-          let u : unvar (terms count (from (at + 2) part)) ≡ met .list = rw (from-drop (at + 2) part, met .arguments) (unvar-vars (met .list)) in
-          let g : left ≡ sets table (first - 11) (name ∷ count ∷ under ∷ met .list) = rw u at w in
-          let k : first - 11 + 11 ≡ first = omega arith in
-          let o : rowsIn (drop (first - 11) left) ≡ row name count under (met .list) ∷ here = rw (g, row-written table (first - 11) name count under (met .list) (met .count) (met .narrow) (omega arith), k) in
-          record {
-            walk = walk-met;
-            simple = met .simple;
-            low = e .low;
-            short = e .short;
-            sound = record { size = rw (g, length-sets table (first - 11) (name ∷ count ∷ under ∷ met .list)) (s .size); place = omega arith; within = omega arith };
-            entries = rw o (met-entries none missing);
-            counts = let k = met-counts none missing in rw o (omega arith);
-            few = e .few;
-          }

@@ -1,6 +1,6 @@
 -- Entering the metavariables of a left side in the symbol table (004, section 5), and asking for those of a right side.
 use mathlib.Core.Path.{_≡_}
-use Prim.Native.Nat.{ℕ, _-_, _*_, _%_, _≤_}
+use Prim.Native.Nat.{ℕ, _-_, _*_, _%_, _≤_, _<_}
 use mathlib.Core.Bool.{Bool, true, false, cond}
 use mathlib.Core.Option.{Option, none, some}
 use mathlib.Core.List.{List}
@@ -10,8 +10,9 @@ use Rattle.documents.specs.Limits.{metavariableLimit}
 use Rattle.documents.specs.Terms.{Term}
 use Rattle.documents.specs.Rules.{metas, among}
 use Rattle.documents.specs.Translation.{Row, Located, lookup, update}
+use Rattle.kahrs.proofs.Simple.{Simple}
 use Rattle.compiled.specs.Length.{leftWords}
-use Rattle.tables.specs.Parts.{wordCount}
+use Rattle.tables.specs.Parts.{front, Begins, wordCount}
 use Rattle.symbols.specs.declared.Entered.{Entered}
 use Rattle.symbols.specs.declared.Entered.the-variants.{Words, Full}
 use Rattle.symbols.specs.Rows.{rowsIn}
@@ -21,6 +22,14 @@ pub record Table (table : List ℕ) (from : ℕ) : Type 0 where
   pub size : length table ≡ 176
   pub place : from % 11 ≡ 0
   pub within : from ≤ 176
+
+-- What is asked for: the subterm that a part begins with is that of a left side, under so many abstractions, and the table's rows begin at a place.
+pub record Enterable (part : List ℕ) (under : ℕ) (table : List ℕ) (from : ℕ) : Type 0 where
+  pub begins : Begins 1 part
+  pub simple : Simple under (front part)
+  pub low : under < 64
+  pub short : length part ≤ 512
+  pub sound : Table table from
 
 -- where a table of so many rows begins
 abbrev pub beginning : List Row → ℕ

@@ -8,14 +8,13 @@ ghost use mathlib.Core.Path.{_≡_};
 ghost use mathlib.Core.Bool.{true};
 ghost use mathlib.Core.List.{_∷_};
 ghost use Prim.Native.Nat.{_+_, _≤_, _<_};
-ghost use lib.ListN.{length, drop};
+ghost use lib.ListN.{length, drop, getD};
 ghost use lib.Seq.{sets};
 ghost use Rattle.documents.specs.Rules.{metas, contains, areVars};
 ghost use Rattle.documents.specs.Translation.{lookup, unvar};
 ghost use Rattle.tables.specs.Parts.{front, terms, Begins};
-ghost use Rattle.kahrs.proofs.Simple.{Simple};
 ghost use Rattle.symbols.specs.Rows.{rowsIn, foundIn};
-ghost use Rattle.symbols.specs.Entries.{Table, Enters, Standing};
+ghost use Rattle.symbols.specs.Entries.{Enterable, Enters, Standing};
 
 // Distinct metavariables on the left.
 pub const MOST_METAVARIABLES: usize = 16;
@@ -75,7 +74,7 @@ const LATER_WORDS: usize = 5;
 
 // Enters the metavariables of a left side's subterm, under so many abstractions, in a table that begins at a place.
 pub fn enter_all(part: &[u32], under: u32, table: &mut [u32], from: usize) -> Entered
-    requires { ⌜ Begins 1 (now part) × Simple under (front (now part)) × (under < 64) × (length (now part) ≤ 512) × Table (now table) from ⌝ }
+    requires { ⌜ Enterable (now part) under (now table) from ⌝ }
     ensures { λ r. ⌜ Enters under (front (now (part .entry))) (rowsIn (drop from (now (table .entry)))) (now (table .exit)) r ⌝ }
 {
     let mut owed: usize = 1;
@@ -83,40 +82,54 @@ pub fn enter_all(part: &[u32], under: u32, table: &mut [u32], from: usize) -> En
     let mut first = from;
     let mut words: usize = 0;
     while 0 < owed {
-        let word = part[at];
-        let count = part[at + 1];
-        owed -= 1;
-        at += 2;
-        if word < FIRST_METAVARIABLE {
-            owed += count as usize;
+        if part[at] < FIRST_METAVARIABLE {
+            owed = owed - 1 + part[at + 1] as usize;
+            at += 2;
             words += PLAIN_WORDS;
             continue;
         }
-        if word == ABSTRACTION {
-            let Entered::Words(read, place, more) = enter_all(&part[at..], under + 1, table, first)
-            else {
-                return Entered::Full;
-            };
-            at += read;
-            first = place;
-            words += ABSTRACTION_WORDS + more;
-            continue;
-        }
-        let name = word - FIRST_METAVARIABLE;
-        let Found::At(_) = find(&table[first..], name, count) else {
-            if first == 0 {
-                return Entered::Full;
-            }
-            first -= ROW_WORDS;
-            enter(table, first, name, count, under, &part[at..]);
-            at += 2 * count as usize;
-            words += FIRST_WORDS + (under - count) as usize;
-            continue;
+        let Entered::Words(read, place, more) = enter_term(&part[at..], under, table, first) else {
+            return Entered::Full;
         };
-        at += 2 * count as usize;
-        words += LATER_WORDS + 2 * count as usize;
+        owed -= 1;
+        at += read;
+        first = place;
+        words += more;
     }
     Entered::Words(at, first, words)
+}
+
+// An abstraction or a metavariable.
+fn enter_term(part: &[u32], under: u32, table: &mut [u32], from: usize) -> Entered
+    requires { ⌜ Enterable (now part) under (now table) from × (131072 ≤ getD (now part) 0 0) ⌝ }
+    ensures { λ r. ⌜ Enters under (front (now (part .entry))) (rowsIn (drop from (now (table .entry)))) (now (table .exit)) r ⌝ }
+{
+    if part[0] == ABSTRACTION {
+        let Entered::Words(read, place, more) = enter_all(&part[2..], under + 1, table, from) else {
+            return Entered::Full;
+        };
+        return Entered::Words(2 + read, place, ABSTRACTION_WORDS + more);
+    }
+    enter_metavariable(part, under, table, from)
+}
+
+// A metavariable: where it has no row yet, this is its first occurrence.
+fn enter_metavariable(part: &[u32], under: u32, table: &mut [u32], from: usize) -> Entered
+    requires { ⌜ Enterable (now part) under (now table) from × (131072 ≤ getD (now part) 0 0) × (getD (now part) 0 0 < 196608) ⌝ }
+    ensures { λ r. ⌜ Enters under (front (now (part .entry))) (rowsIn (drop from (now (table .entry)))) (now (table .exit)) r ⌝ }
+{
+    let name = part[0] - FIRST_METAVARIABLE;
+    let count = part[1];
+    let read = 2 + 2 * count as usize;
+    let Found::At(_) = find(&table[from..], name, count) else {
+        if from == 0 {
+            return Entered::Full;
+        }
+        let place = from - ROW_WORDS;
+        enter(table, place, name, count, under, &part[2..]);
+        return Entered::Words(read, place, FIRST_WORDS + (under - count) as usize);
+    };
+    Entered::Words(read, from, LATER_WORDS + 2 * count as usize)
 }
 
 // Writes a row.

@@ -17,7 +17,7 @@ translate-spec =
     tie.close
     (tie.spec
     (λ c. search needs)
-    (λ c κs. let s = c .before .before .before .before .pre in (s .leftBegins, left-simple s, omega arith, left-short s, table-without-rows (replicate 176 0) refl))
+    (λ c κs. let s = c .before .before .before .before .pre in record { begins = s .leftBegins; simple = left-simple s; low = omega arith; short = left-short s; sound = table-without-rows (replicate 176 0) refl })
     (λ c. search needs)
     (λ c. search needs)
     (λ c κs. let s = c .before .before .before .before .before .before .before .before .pre in record { leftBegins = s .leftBegins; rightBegins = s .rightBegins; many = table-full (replicate 176 0) refl (c .before .before .before .enter-all .ensures) (c .enum-told .given .1) })
