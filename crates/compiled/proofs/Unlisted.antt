@@ -17,7 +17,7 @@ use Rattle.kahrs.proofs.Places.{Distinct, Under, unlisted-covered}
 abbrev pub unlisted : ℕ → List ℕ → List ℕ
 unlisted n l = keep (λ i. not (member l i)) (upTo n)
 
-length-upTo : (n : ℕ) → length (upTo n) ≡ n
+pub length-upTo : (n : ℕ) → length (upTo n) ≡ n
 length-upTo zero = refl
 length-upTo (suc n) = let h = length-upTo n in rw (length-append (upTo n) (n ∷ [])) (omega arith)
 

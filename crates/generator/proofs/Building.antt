@@ -8,11 +8,12 @@ use mathlib.Core.Option.{Option, none, some}
 use mathlib.Core.List.{List, [], _∷_, _++_, append-assoc, append-nil}
 use lib.ListN.{length, take, drop, getD, set, length-drop, length-take}
 use lib.Seq.{sets, length-sets, set-comm, drop-drop}
-use Rattle.documents.specs.Terms.{Nil, Cons, Term, Terms, len}
+use Rattle.documents.specs.Terms.{Nil, Cons, Term, Terms}
 use Rattle.documents.specs.Tables.{nodes}
 use Rattle.documents.specs.Instructions.{CELL, ADBMAL, End, _▸_, Program, words, bodyCount}
-use Rattle.documents.specs.Translation.{Row, Located, located, lookup, joined, keyed, rhs, rhsMeta}
+use Rattle.documents.specs.Translation.{Located, located, lookup, joined, keyed, rhs, rhsMeta}
 use Rattle.documents.proofs.Lists.{never}
+use Rattle.compiled.proofs.Length.{count-rhs}
 use Rattle.tables.specs.Parts.{terms, front, Begins, wordCount}
 use Rattle.tables.proofs.Parts.{begins-less, Passed, passed, no-terms, front-term, words-fit, in-table, from, from-drop}
 use Rattle.tables.proofs.Walks.{at-abstraction, walk-from}
@@ -154,10 +155,6 @@ module _ {part : List ℕ} {under : ℕ} {rows : List ℕ} (g : Ready 1 part und
 
 -- ---- A metavariable
 
-length-rhs : (tab : List Row) (n : ℕ) (ts : Terms) → length (rhs tab n ts) ≡ len ts
-length-rhs tab n Nil = refl
-length-rhs tab n (Cons t ts) = ap suc (length-rhs tab n ts)
-
 bodyCount-keyed : (ks : List ℕ) (cs : List Program) → length ks ≡ length cs → bodyCount (keyed ks cs) ≡ length cs
 bodyCount-keyed [] [] e = refl
 bodyCount-keyed [] (c ∷ cs) e = absurd (omega arith)
@@ -196,7 +193,7 @@ module _ {part : List ℕ} {under : ℕ} {rows : List ℕ} (g : Ready 1 part und
     count-of-bodies =
         let ks = take (getD part 1 0) (drop (11 * l + 3) rows) in
         let cs = rhs (rowsIn rows) under (terms (getD part 1 0) (drop 2 part)) in
-        let r : length cs ≡ getD part 1 0 = length-rhs (rowsIn rows) under (terms (getD part 1 0) (drop 2 part)) ∙ argument-count (g .begins) in
+        let r : length cs ≡ getD part 1 0 = count-rhs (rowsIn rows) under (terms (getD part 1 0) (drop 2 part)) ∙ argument-count (g .begins) in
         let k : length ks ≡ getD part 1 0 = let w = keys-within in rw (length-take, length-drop) (omega arith) in
         bodyCount-keyed ks cs (k ∙ sym r) ∙ r
 

@@ -9,7 +9,7 @@ use mathlib.Core.Bool.{Bool, true, false, not}
 use mathlib.Core.Option.{Option}
 use mathlib.Core.List.{List, [], _∷_, _++_}
 use lib.Dec.{ltb}
-use lib.ListN.{length, take, drop, getD, length-append, length-drop, List·getD-append}
+use lib.ListN.{length, take, drop, getD, length-drop, List·getD-append}
 use lib.Seq.{drop-cons, drop-drop, sets, getD-at, getD-drop, length-take-le}
 use borrow.Author.Tests.{lt-ltb, le-ltb, ltb-true, ltb-false}
 use Rattle.documents.specs.Lists.{keep, member, upTo, pairlists}
@@ -21,7 +21,7 @@ use Rattle.documents.specs.Translation.{Row, row, Located, lookup, unvar, _⧺_
 use Rattle.documents.proofs.Translation.{⧺-assoc}
 use Rattle.documents.proofs.Lists.{never}
 use Rattle.kahrs.proofs.Simple.{vars, len-vars, unvar-vars, Simple}
-use Rattle.compiled.proofs.Unlisted.{unlisted, unlisted-others}
+use Rattle.compiled.proofs.Unlisted.{unlisted, unlisted-others, length-upTo}
 use Rattle.tables.specs.Parts.{terms, front, Begins, wordCount}
 use Rattle.tables.proofs.Parts.{join, Step, step, begins-less, passed, words-fit, in-table, no-terms, front-term}
 use Rattle.tables.proofs.Walks.{at-variable, at-abstraction, Walk, walk-from, walk-variable, ended, Walking, walking-from, walking-on, walking-term, walking-ended}
@@ -29,6 +29,7 @@ use Rattle.tables.proofs.Sides.{is-variable, variables-behind}
 use Rattle.tables.proofs.Fronts.{last-word, root, arguments-begin, argument-count, front-metavariable, front-abstraction}
 use Rattle.symbols.specs.declared.Found.the-variants.{At, Nothing}
 use Rattle.symbols.specs.Rows.{rowsIn, foundIn}
+use Rattle.symbols.proofs.Entering.{simple-join, nodes-vars}
 use Rattle.symbols.proofs.Located.{is-nothing, Entry, entry}
 use Rattle.generator.specs.declared.left.Matched.{Matched}
 use Rattle.generator.specs.Written.{Fits, Wrote}
@@ -84,10 +85,6 @@ pairing-ended {left = zero} p h = writing-ended (p .writing)
 pairing-ended {left = suc n} p h = absurd (omega arith)
 
 -- ---- The indices that are not among the arguments
-
-length-upTo : (n : ℕ) → length (upTo n) ≡ n
-length-upTo zero = refl
-length-upTo (suc n) = let h = length-upTo n in rw (length-append (upTo n) (n ∷ [])) (omega arith)
 
 getD-upTo : (n i : ℕ) → i < n → getD (upTo n) i 0 ≡ i
 getD-upTo zero i h = absurd (omega arith)
@@ -243,10 +240,6 @@ vars-are : (l : List ℕ) → areVars (vars l) ≡ true
 vars-are [] = refl
 vars-are (x ∷ l) = vars-are l
 
-nodes-vars : (l : List ℕ) → nodes (vars l) ≡ length l
-nodes-vars [] = refl
-nodes-vars (x ∷ l) = let h = nodes-vars l in omega arith
-
 -- a part that begins with a metavariable, under so many abstractions
 pub record MetaAt (part : List ℕ) (under : ℕ) : Type 0 where
   pub term : front part ≡ Meta (getD part 0 0 - 131072) (terms (getD part 1 0) (drop 2 part))
@@ -371,10 +364,6 @@ lhs-join tab n sets Nil us = refl
 lhs-join tab n sets (Cons t ts) us =
     ap (λ (c : Program). lhs tab n sets t ⧺ c) (lhs-join tab n (setsAfter tab sets t) ts us)
     ∙ sym (⧺-assoc (lhs tab n sets t) (lhs tab n (setsAfter tab sets t) ts) (lhs tab n (setsAfter tab (setsAfter tab sets t) ts) us))
-
-simple-join : (n : ℕ) (ts us : Terms) → Simple n ts → Simple n us → Simple n (join ts us)
-simple-join n Nil us h k = k
-simple-join n (Cons t ts) us h k = (h .0, simple-join n ts us (h .1) k)
 
 -- a variable's or a symbol's node: its own words, and what stands behind it
 pub record Plain (tab : List Row) (n sets w c : ℕ) (ts us : Terms) : Type 0 where

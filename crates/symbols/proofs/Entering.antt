@@ -80,7 +80,7 @@ module _ (n : ℕ) (t : Term) (rows : List Row) where
 
 -- ---- Terms before others
 
-simple-join : (n : ℕ) (ts us : Terms) → Simple n ts → Simple n us → Simple n (join ts us)
+pub simple-join : (n : ℕ) (ts us : Terms) → Simple n ts → Simple n us → Simple n (join ts us)
 simple-join n Nil us p q = q
 simple-join n (Cons t ts) us p q = (p .0, simple-join n ts us (p .1) q)
 
@@ -117,7 +117,7 @@ plain-step {k = suc (suc k)} n p e h q = absurd (omega arith)
 
 -- ---- A metavariable
 
-nodes-vars : (l : List ℕ) → nodes (vars l) ≡ length l
+pub nodes-vars : (l : List ℕ) → nodes (vars l) ≡ length l
 nodes-vars [] = refl
 nodes-vars (x ∷ l) = let h = nodes-vars l in omega arith
 

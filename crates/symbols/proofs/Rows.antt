@@ -8,10 +8,11 @@ use mathlib.Core.List.{List, [], _∷_}
 use lib.Dec.{eqb}
 use lib.ListN.{length, getD, drop, length-drop}
 use lib.Seq.{drop-drop, getD-drop}
-use borrow.Author.Tests.{eq-eqb, ne-eqb, eqb-true}
+use borrow.Author.Tests.{eq-eqb}
 use Rattle.documents.specs.Translation.{Row, Located, located, further, lookup}
 use Rattle.documents.proofs.Lists.{never, T-of}
 use Rattle.kahrs.proofs.Places.{eqb-both}
+use Rattle.tables.proofs.Sides.{unequal}
 use Rattle.symbols.specs.declared.Found.{Found}
 use Rattle.symbols.specs.declared.Found.the-variants.{At, Nothing}
 use Rattle.symbols.specs.Rows.{rowIn, rowsFrom, rowsIn, foundIn}
@@ -61,13 +62,6 @@ pub record Seeking (rows : List ℕ) (z k location at : ℕ) : Type 0 where
 pub seeking-from : (rows : List ℕ) (z k : ℕ) → Seeking rows z k 0 0
 seeking-from rows z k = record { found = moved-none (lookup z k (rowsIn rows)); places = omega arith; within = omega arith }
 
-unequal : (x y u v : ℕ) → ((x ≡ y) → (u ≡ v) → ⊥) → eqb y x && eqb v u ≡ false
-unequal x y u v h = go (eqb y x) (eqb-true y x)
-  where
-    go : (q : Bool) → (q ≡ true → y ≡ x) → q && eqb v u ≡ false
-    go true f = ne-eqb v u (λ e. h (sym (f refl)) (sym e))
-    go false f = refl
-
 module _ {rows : List ℕ} {z k location at : ℕ} (s : Seeking rows z k location at) (h : at + 11 ≤ length rows) where
   row-name : getD (drop at rows) 0 0 ≡ getD rows at 0
   row-name = let e : at + 0 ≡ at = omega arith in getD-drop at rows 0 0 ∙ ap (λ (i : ℕ). getD rows i 0) e
@@ -83,7 +77,7 @@ module _ {rows : List ℕ} {z k location at : ℕ} (s : Seeking rows z k locatio
     found =
         let g = s .found in
         sym (moved-further location (lookup z k (rowsIn (drop (at + 11) rows))))
-        ∙ rw (rows-step rows at h, row-name, getD-drop at rows 1 0, unequal (getD rows at 0) z (getD rows (at + 1) 0) k o) at g;
+        ∙ rw (rows-step rows at h, row-name, getD-drop at rows 1 0, unequal z (getD rows at 0) k (getD rows (at + 1) 0) (λ e f. o (sym e) (sym f))) at g;
     places = let p = s .places in omega arith;
     within = h;
   }

@@ -38,7 +38,7 @@ metas-other {k = suc (suc (suc zero))} p e = rw (p .node, p .inside, p .shape .1
 metas-other {k = suc (suc (suc (suc k)))} p e = absurd (p .shape)
 
 -- two pairs that are not the same
-unequal : (x y u v : ℕ) → ((x ≡ y) → (u ≡ v) → ⊥) → eqb x y && eqb u v ≡ false
+pub unequal : (x y u v : ℕ) → ((x ≡ y) → (u ≡ v) → ⊥) → eqb x y && eqb u v ≡ false
 unequal x y u v h = go (eqb x y) (eqb-true x y)
   where
     go : (q : Bool) → (q ≡ true → x ≡ y) → q && eqb u v ≡ false
