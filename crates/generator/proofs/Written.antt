@@ -70,3 +70,10 @@ take-left (suc n) l i h k =
     let e : suc n - 1 ≡ n = omega arith in
     let f : i < length l = omega arith in
     rw (e, add-one i, drop-cons l i 0 f)
+
+-- a word, and then the words behind it
+pub wrote-more : {old mid new : List ℕ} {at next last w : ℕ} {ws : List ℕ} → Wrote old mid at next (w ∷ []) → Wrote mid new next last ws → Wrote old new at last (w ∷ ws)
+wrote-more {old} {at = at} {w = w} {ws} o p = record {
+  code = p .code ∙ rw (o .code, o .place) (sym (sets-append old at (w ∷ []) ws));
+  place = let q = o .place in let r = p .place in omega arith;
+}

@@ -1,4 +1,4 @@
-// Words in a row from a place on, and the place behind them.
+// Words in a row from a place on, and the place behind them: the first word, then the others.
 ghost use mathlib.Core.List.{_∷_, []};
 ghost use Rattle.generator.specs.Written.{Fits, Wrote};
 
@@ -14,28 +14,22 @@ pub fn put_two(code: &mut [u32], at: usize, a: u32, b: u32) -> usize
     requires { ⌜ Fits (now code) at (a ∷ b ∷ []) ⌝ }
     ensures { λ r. ⌜ Wrote (now (code .entry)) (now (code .exit)) at r (a ∷ b ∷ []) ⌝ }
 {
-    code[at] = a;
-    code[at + 1] = b;
-    at + 2
+    let next = put_one(code, at, a);
+    put_one(code, next, b)
 }
 
 pub fn put_three(code: &mut [u32], at: usize, a: u32, b: u32, c: u32) -> usize
     requires { ⌜ Fits (now code) at (a ∷ b ∷ c ∷ []) ⌝ }
     ensures { λ r. ⌜ Wrote (now (code .entry)) (now (code .exit)) at r (a ∷ b ∷ c ∷ []) ⌝ }
 {
-    code[at] = a;
-    code[at + 1] = b;
-    code[at + 2] = c;
-    at + 3
+    let next = put_one(code, at, a);
+    put_two(code, next, b, c)
 }
 
 pub fn put_four(code: &mut [u32], at: usize, a: u32, b: u32, c: u32, d: u32) -> usize
     requires { ⌜ Fits (now code) at (a ∷ b ∷ c ∷ d ∷ []) ⌝ }
     ensures { λ r. ⌜ Wrote (now (code .entry)) (now (code .exit)) at r (a ∷ b ∷ c ∷ d ∷ []) ⌝ }
 {
-    code[at] = a;
-    code[at + 1] = b;
-    code[at + 2] = c;
-    code[at + 3] = d;
-    at + 4
+    let next = put_one(code, at, a);
+    put_three(code, next, b, c, d)
 }
