@@ -2,13 +2,12 @@
 
 use std::hint::black_box;
 
-use linked::engine::linked as proved;
 use linked::numbers::{ABSENT_ON_LEFT, CODE_TABLE_SHORT, DONE, TOO_MANY_METAVARIABLES};
 use second::limits::CODE_WORDS;
-use second::seed::{large, Rule, Term};
+use second::seed::{large, Rule, Term, SIDE_LEAVES};
 use Term::{Meta, Sym, Var};
 
-use crate::{Case, Side};
+use crate::{proved, Case, Side};
 
 /// A rule, a code table, and what compiling it gives.
 pub struct LentRule {
@@ -51,8 +50,8 @@ impl Case for LentRule {
 fn number_of(name: &str) -> u32 {
     match name {
         "refused-8" => ABSENT_ON_LEFT,
-        "refused-9" => TOO_MANY_METAVARIABLES,
         "refused-10" => CODE_TABLE_SHORT,
+        _ if name.starts_with("refused-9") => TOO_MANY_METAVARIABLES,
         _ => DONE,
     }
 }
@@ -66,11 +65,13 @@ fn rule_of(name: &str) -> Rule {
         "checks" => large::checks(),
         "repeated" => large::repeated(),
         "most" | "refused-10" => large::most_words(),
-        "refused-8" => large::many_metavariables(true),
-        "refused-9" => large::many_metavariables(false),
-        _ => match name.strip_prefix("growing-").and_then(|nodes| nodes.parse().ok()) {
-            Some(nodes) => large::growing(nodes),
-            None => panic!("no such rule: {name}"),
+        "refused-8" => large::many_metavariables(SIDE_LEAVES, true),
+        "refused-9" => large::many_metavariables(SIDE_LEAVES, false),
+        "refused-9-one" => large::one_metavariable(),
+        _ => match name.rsplit_once('-').map(|(family, size)| (family, size.parse())) {
+            Some(("growing", Ok(nodes))) => large::growing(nodes),
+            Some(("refused-9", Ok(many))) => large::many_metavariables(many, false),
+            _ => panic!("no such rule: {name}"),
         },
     }
 }

@@ -1,13 +1,16 @@
 //! `reed-bench CALL SIDE CASE TIMES`: makes a call so many times, for callgrind to count
 //! instructions.
-//! `reed-bench CALL SIDE CASE stack`: makes it once and prints how many bytes of stack that took.
+//! `reed-bench CALL SIDE CASE stack`: makes it once and prints how many bytes of stack that took; on
+//! another machine than x86-64 not for `second`.
 //! `reed-bench CALL SIDE CASE words`: prints by how many words the instructions are to be divided.
 //!
 //! CALL is `read` or `compile`, SIDE is `reedbiscuit` or `second`; `read.rs` and `compile.rs` know
 //! the cases. run.sh makes tables of it all.
 
 mod compile;
+mod proved;
 mod read;
+#[cfg(target_arch = "x86_64")]
 mod stack;
 
 #[derive(Clone, Copy)]
@@ -51,6 +54,9 @@ fn side_of(name: &str) -> Side {
 fn measure(mut case: impl Case, side: Side, what: &str) {
     match what {
         "words" => println!("{}", case.words()),
+        #[cfg(not(target_arch = "x86_64"))]
+        "stack" => println!("{}", proved::stack(|| case.make(side)) - proved::stack(|| ())),
+        #[cfg(target_arch = "x86_64")]
         "stack" => {
             let nothing = stack::written_by(|| ());
             println!("{}", stack::written_by(|| case.make(side)) - nothing);

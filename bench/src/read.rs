@@ -2,12 +2,11 @@
 
 use std::hint::black_box;
 
-use linked::engine::linked as proved;
 use linked::numbers::{BAD_FILE, DONE};
 use second::limits::{FILE_SIDE_WORDS, FILE_SUBJECT_WORDS, FILE_WORD_BYTES};
 use second::seed::file_of;
 
-use crate::{Case, Side};
+use crate::{proved, Case, Side};
 
 /// A file, the number that it is read with, and tables for it.
 pub struct File {

@@ -31,6 +31,8 @@ use Rattle.tables.specs.Parts.{front, Begins}
 use Rattle.tables.specs.declared.accept.Sized.the-variants as table
 use Rattle.tables.proofs.Accepted.{AcceptedTable, accepted-table}
 use Rattle.symbols.specs.Rows.{rowsIn}
+use Rattle.symbols.specs.Entries.{allFound}
+use Rattle.symbols.proofs.Asked.{found-table}
 use Rattle.symbols.proofs.Whole.{Made}
 use Rattle.generator.specs.Written.{Fits}
 use Rattle.compiler.specs.declared.Compiled.the-variants.{Words, Refused}
@@ -270,3 +272,7 @@ rows-of left {table} {read} {place} {more} m h =
     let d = length-drop place table in
     let e : take (176 - place) (drop place table) ≡ drop place table = take-all (176 - place) (drop place table) (omega arith) in
     rw e (record { entries = m .entries; few = omega arith })
+
+-- what has a row is what stands on the left
+pub found-rows : {left rows : List ℕ} (ms : List (ℕ × ℕ)) → Rows left rows → allFound (rowsIn rows) ms ≡ contains ms (metas (front left))
+found-rows {left} ms r = rw (r .entries) (found-table (front left) ms)

@@ -51,8 +51,7 @@ pub record Sides (left right : List ℕ) : Type 0 where
 
 -- more than sixteen metavariables on the left
 pub record Crowded (left right : List ℕ) : Type 0 where
-  pub leftBegins : Begins 1 left
-  pub rightBegins : Begins 1 right
+  pub sides : Sides left right
   pub many : metavariableLimit < length (symbolTable (front left))
 
 -- then 8, or else 9

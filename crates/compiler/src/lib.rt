@@ -8,10 +8,11 @@ use crate::sides::accept_sides;
 use documents::Refusal;
 use generator::left::left_side;
 use generator::right::right_side;
+use keys::all_known;
 use symbols::Entered;
 use symbols::ROW_WORDS;
 use symbols::TABLE_WORDS;
-use symbols::all_stand;
+use symbols::all_found;
 use symbols::enter_all;
 use tables::accept::Sized;
 ghost use mathlib.Core.Path.{_≡_};
@@ -49,7 +50,7 @@ fn translate(left: &[u32], right: &[u32], code: &mut [u32]) -> Compiled
         return over_sixteen(left, right);
     };
     let rows = &table[first..];
-    if !all_stand(right, rows, left) {
+    if !all_found(right, rows) {
         return Compiled::Refused(Refusal::MetavariableAbsentOnLeft);
     }
     let words = left_words + right_words(right);
@@ -65,7 +66,7 @@ fn over_sixteen(left: &[u32], right: &[u32]) -> Compiled
     requires { ⌜ Crowded (now left) (now right) ⌝ }
     ensures { λ r. ⌜ r ≡ crowded (front (now (left .entry))) (front (now (right .entry))) ⌝ }
 {
-    if !all_stand(right, &left[..0], left) {
+    if !all_known(right, left) {
         return Compiled::Refused(Refusal::MetavariableAbsentOnLeft);
     }
     Compiled::Refused(Refusal::TooManyMetavariables)

@@ -2,7 +2,7 @@
 use mathlib.Core.Path.{_≡_, refl, sym, ap, ap₂, _∙_}
 use Prim.Native.Nat.{ℕ, suc, _+_, _-_, _%_, _≤_, _<_}
 use native.Mathlib.Omega.{arith}
-use mathlib.Core.Bool.{Bool, true, false, _&&_, _||_, cond}
+use mathlib.Core.Bool.{Bool, true, false, _&&_, _||_, cond, or-false, or-assoc}
 use mathlib.Core.Option.{Option, none, some}
 use mathlib.Core.List.{List, [], _∷_, _++_}
 use lib.Dec.{eqb}
@@ -11,26 +11,18 @@ use borrow.Author.Tests.{eqb-true, eqb-false, eq-eqb, ne-eqb}
 use Rattle.documents.specs.Terms.{Sort, Tm, Var, Sym, Meta, Abst, Nil, Cons, Term, Terms, len}
 use Rattle.documents.specs.Rules.{metas, among, contains}
 use Rattle.documents.specs.Translation.{Row, row, Located, located, further, lookup, unvar, enter, update, symbolTable}
-use Rattle.documents.proofs.Lists.{never, T-of}
+use Rattle.documents.proofs.Lists.{T-of}
 use Rattle.kahrs.proofs.Places.{eqb-both}
 use Rattle.tables.specs.Parts.{terms, front, Begins}
 use Rattle.tables.proofs.Walks.{Walk, walk-from, walk-on, ended}
 use Rattle.tables.proofs.Sides.{metas-front, metas-here, metas-behind}
 use Rattle.tables.proofs.Fronts.{last-word}
-use Rattle.symbols.specs.declared.Found.the-variants.{At}
+use Rattle.symbols.specs.declared.Found.the-variants.{At, Nothing}
 use Rattle.symbols.specs.Rows.{rowsIn, foundIn}
-use Rattle.symbols.specs.Entries.{isFound, Standing}
-use Rattle.symbols.proofs.Located.{is-found}
+use Rattle.symbols.specs.Entries.{isFound, allFound}
+use Rattle.symbols.proofs.Located.{is-found, is-nothing}
 
 -- ---- Which have a row
-
-or-assoc : (a b c : Bool) → (a || b) || c ≡ a || (b || c)
-or-assoc true b c = refl
-or-assoc false b c = refl
-
-or-false : (a : Bool) → a || false ≡ a
-or-false true = refl
-or-false false = refl
 
 eqb-sym : (a b : ℕ) → eqb a b ≡ eqb b a
 eqb-sym a b = go (eqb b a) refl
@@ -81,55 +73,48 @@ found-update n (Cons t ts) rows m =
     ∙ or-assoc (isFound (lookup (m .0) (m .1) rows)) (among (metas t) m) (among (metas ts) m)
     ∙ ap (λ (q : Bool). isFound (lookup (m .0) (m .1) rows) || q) (sym (among-append (metas t) (metas ts) m))
 
--- those of a left side's table stand on the left
-pub standing-table : (l : Term) → Standing (symbolTable l) l
-standing-table l z k e = sym (found-update 0 l [] (z, k)) ∙ e
-
-pub standing-none : (l : Term) → Standing [] l
-standing-none l z k e = never (cc)
+-- those of a left side's table are those that stand on the left
+pub found-table : (l : Term) (ms : List (ℕ × ℕ)) → allFound (symbolTable l) ms ≡ contains ms (metas l)
+found-table l [] = refl
+found-table l (m ∷ ms) = ap₂ (λ (a b : Bool). a && b) (found-update 0 l [] m) (found-table l ms)
 
 -- ---- A walk that asks for each metavariable
 
--- Whether those still owed stand on the left is what was asked of the subterm's.
-pub record Asking (part : List ℕ) (l : Term) (owed at : ℕ) : Type 0 where
+-- Whether those still owed have a row is what was asked of the subterm's.
+pub record Asking (part rows : List ℕ) (owed at : ℕ) : Type 0 where
   pub walk : Walk part at owed
-  pub same : contains (metas (terms owed (drop at part))) (metas l) ≡ contains (metas (front part)) (metas l)
+  pub same : allFound (rowsIn rows) (metas (terms owed (drop at part))) ≡ allFound (rowsIn rows) (metas (front part))
 
-pub asking-from : {part : List ℕ} {l : Term} → Begins 1 part → Asking part l 1 0
-asking-from {part} {l} b = record { walk = walk-from b; same = ap (λ (ms : List (ℕ × ℕ)). contains ms (metas l)) (metas-front b) }
+pub asking-from : {part : List ℕ} (rows : List ℕ) → Begins 1 part → Asking part rows 1 0
+asking-from {part} rows b = record { walk = walk-from b; same = ap (allFound (rowsIn rows)) (metas-front b) }
 
-pub asking-ended : {part : List ℕ} {l : Term} {owed at : ℕ} → Asking part l owed at → owed ≤ 0 → true ≡ contains (metas (front part)) (metas l)
-asking-ended {l = l} a h = ap (λ (ts : Terms). contains (metas ts) (metas l)) (sym (ended (a .walk) h)) ∙ a .same
+pub asking-ended : {part rows : List ℕ} {owed at : ℕ} → Asking part rows owed at → owed ≤ 0 → true ≡ allFound (rowsIn rows) (metas (front part))
+asking-ended {rows = rows} a h = ap (λ (ts : Terms). allFound (rowsIn rows) (metas ts)) (sym (ended (a .walk) h)) ∙ a .same
 
-module _ {part : List ℕ} {l : Term} {owed at : ℕ} (a : Asking part l owed at) (h : 0 < owed) where
+module _ {part rows : List ℕ} {owed at : ℕ} (a : Asking part rows owed at) (h : 0 < owed) where
   -- past a node that is no metavariable
-  pub asking-on : (131072 ≤ getD part at 0 → getD part at 0 < 196608 → ⊥) → Asking part l (owed - 1 + getD part (at + 1) 0) (at + 2)
+  pub asking-on : (131072 ≤ getD part at 0 → getD part at 0 < 196608 → ⊥) → Asking part rows (owed - 1 + getD part (at + 1) 0) (at + 2)
   asking-on o = record {
     walk = walk-on (a .walk) h;
-    same = ap (λ (ms : List (ℕ × ℕ)). contains ms (metas l)) (sym (metas-behind (a .walk) h o)) ∙ a .same;
+    same = ap (allFound (rowsIn rows)) (sym (metas-behind (a .walk) h o)) ∙ a .same;
   }
 
   module _ (lo : 131072 ≤ getD part at 0) (ne : getD part at 0 ≡ 196608 → ⊥) where
-    abbrev others : Bool
-    others = contains (metas (terms (owed - 1 + getD part (at + 1) 0) (drop (at + 2) part))) (metas l)
+    abbrev here : Option Located
+    here = lookup (getD part at 0 - 131072) (getD part (at + 1) 0) (rowsIn rows)
 
-    asked : contains (metas (terms owed (drop at part))) (metas l) ≡ among (metas l) (getD part at 0 - 131072, getD part (at + 1) 0) && others
-    asked =
+    abbrev others : Bool
+    others = allFound (rowsIn rows) (metas (terms (owed - 1 + getD part (at + 1) 0) (drop (at + 2) part)))
+
+    asked : (q : Bool) → isFound here ≡ q → q && others ≡ allFound (rowsIn rows) (metas (front part))
+    asked q f =
         let hi = last-word (a .walk) h in
         let e : getD part at 0 % 65536 ≡ getD part at 0 - 131072 = omega arith in
-        ap (λ (ms : List (ℕ × ℕ)). contains ms (metas l)) (rw e at (metas-here (a .walk) h lo (omega arith)))
+        sym (ap (allFound (rowsIn rows)) (rw e at (metas-here (a .walk) h lo (omega arith))) ∙ ap (λ (q : Bool). q && others) f) ∙ a .same
 
-    -- past a metavariable that stands on the left
-    pub asking-standing : among (metas l) (getD part at 0 - 131072, getD part (at + 1) 0) ≡ true → Asking part l (owed - 1 + getD part (at + 1) 0) (at + 2)
-    asking-standing e = record { walk = walk-on (a .walk) h; same = sym (asked ∙ ap (λ (q : Bool). q && others) e) ∙ a .same }
+    -- past a metavariable that has a row
+    pub asking-found : {i : ℕ} → At i ≡ foundIn here → Asking part rows (owed - 1 + getD part (at + 1) 0) (at + 2)
+    asking-found {i} e = record { walk = walk-on (a .walk) h; same = asked true (is-found here i e) }
 
-    -- which one that has a row does
-    pub asking-found : (rows : List ℕ) {i : ℕ} → Standing (rowsIn rows) l → At i ≡ foundIn (lookup (getD part at 0 - 131072) (getD part (at + 1) 0) (rowsIn rows))
-        → Asking part l (owed - 1 + getD part (at + 1) 0) (at + 2)
-    asking-found rows {i} s e = asking-standing (s _ _ (is-found (lookup (getD part at 0 - 131072) (getD part (at + 1) 0) (rowsIn rows)) i e))
-
-    pub asking-missing : among (metas l) (getD part at 0 - 131072, getD part (at + 1) 0) ≡ false → false ≡ contains (metas (front part)) (metas l)
-    asking-missing e = sym (asked ∙ ap (λ (q : Bool). q && others) e) ∙ a .same
-
-    pub asking-name : getD part at 0 - 131072 ≤ 65535
-    asking-name = let hi = last-word (a .walk) h in omega arith
+    pub asking-missing : Nothing ≡ foundIn here → false ≡ allFound (rowsIn rows) (metas (front part))
+    asking-missing e = asked false (ap isFound (is-nothing here e))

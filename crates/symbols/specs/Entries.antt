@@ -7,8 +7,8 @@ use mathlib.Core.List.{List}
 use lib.Dec.{leb}
 use lib.ListN.{length, drop}
 use Rattle.documents.specs.Limits.{metavariableLimit}
+use Rattle.documents.specs.Lists.{every}
 use Rattle.documents.specs.Terms.{Term}
-use Rattle.documents.specs.Rules.{metas, among}
 use Rattle.documents.specs.Translation.{Row, Located, lookup, update}
 use Rattle.kahrs.proofs.Simple.{Simple}
 use Rattle.compiled.specs.Length.{leftWords}
@@ -51,6 +51,6 @@ abbrev pub isFound : Option Located → Bool
 isFound none = false
 isFound (some e) = true
 
--- each metavariable that has a row stands in the term
-abbrev pub Standing : List Row → Term → Type 0
-Standing rows t = (z k : ℕ) → isFound (lookup z k rows) ≡ true → among (metas t) (z, k) ≡ true
+-- each of these metavariables has a row
+abbrev pub allFound : List Row → List (ℕ × ℕ) → Bool
+allFound rows ms = every (λ m. isFound (lookup (m .0) (m .1) rows)) ms

@@ -3,18 +3,17 @@
 // stands first, and a location is a place.
 use tables::node::ABSTRACTION;
 use tables::node::FIRST_METAVARIABLE;
-use tables::side::stands;
 ghost use mathlib.Core.Path.{_≡_};
 ghost use mathlib.Core.Bool.{true};
 ghost use mathlib.Core.List.{_∷_};
 ghost use Prim.Native.Nat.{_+_, _≤_, _<_};
 ghost use lib.ListN.{length, drop, getD};
 ghost use lib.Seq.{sets};
-ghost use Rattle.documents.specs.Rules.{metas, contains, areVars};
+ghost use Rattle.documents.specs.Rules.{metas, areVars};
 ghost use Rattle.documents.specs.Translation.{lookup, unvar};
 ghost use Rattle.tables.specs.Parts.{front, terms, Begins};
 ghost use Rattle.symbols.specs.Rows.{rowsIn, foundIn};
-ghost use Rattle.symbols.specs.Entries.{Enterable, Enters, Standing};
+ghost use Rattle.symbols.specs.Entries.{Enterable, Enters, allFound};
 
 // Distinct metavariables on the left.
 pub const MOST_METAVARIABLES: usize = 16;
@@ -159,11 +158,10 @@ fn put_variables(part: &[u32], count: u32, out: &mut [u32], at: usize)
     }
 }
 
-// Whether each metavariable of a subterm stands on the left, too. One that has no row is looked for among all on the left, which may have more
-// metavariables than a table has rows.
-pub fn all_stand(part: &[u32], rows: &[u32], left: &[u32]) -> bool
-    requires { ⌜ Begins 1 (now part) × Begins 1 (now left) × Standing (rowsIn (now rows)) (front (now left)) ⌝ }
-    ensures { λ r. ⌜ r ≡ contains (metas (front (now (part .entry)))) (metas (front (now (left .entry)))) ⌝ }
+// Whether each metavariable of a subterm has a row.
+pub fn all_found(part: &[u32], rows: &[u32]) -> bool
+    requires { ⌜ Begins 1 (now part) ⌝ }
+    ensures { λ r. ⌜ r ≡ allFound (rowsIn (now (rows .entry))) (metas (front (now (part .entry)))) ⌝ }
 {
     let mut owed: usize = 1;
     let mut at: usize = 0;
@@ -178,11 +176,7 @@ pub fn all_stand(part: &[u32], rows: &[u32], left: &[u32]) -> bool
         if word == ABSTRACTION {
             continue;
         }
-        let name = word - FIRST_METAVARIABLE;
-        let Found::At(_) = find(rows, name, count) else {
-            if stands(left, name, count) {
-                continue;
-            }
+        let Found::At(_) = find(rows, word - FIRST_METAVARIABLE, count) else {
             return false;
         };
     }

@@ -4,7 +4,7 @@ use mathlib.Core.Path.{_≡_, refl, sym, ap, ap₂, _∙_}
 use Prim.Native.Nat.{ℕ, zero, suc, _+_, _-_, _/_, _%_, _≤_, _<_}
 use native.Mathlib.Numerals.{add-one}
 use native.Mathlib.Omega.{arith}
-use mathlib.Core.Bool.{Bool, true, false, _&&_, cond}
+use mathlib.Core.Bool.{Bool, true, false, _&&_, cond, and-false}
 use mathlib.Core.List.{List, [], _∷_}
 use lib.Dec.{eqb, ltb}
 use lib.ListN.{length, drop, getD, length-drop}
@@ -21,10 +21,6 @@ use Rattle.tables.specs.declared.walk.Walked.the-variants.{Words, Stoppe
 use Rattle.tables.specs.Compared.{sameVariable, compared}
 use Rattle.tables.proofs.Parts.{join, headed, Shape, Step, step, two, front-term, from, from-drop}
 use Rattle.tables.proofs.Walks.{at-variable, at-abstraction, Walk, ended, Walking, walking-from, walking-on, walking-variable, walking-abstraction, walking-ended, walked-words, walked-stopped, is-words, is-stopped}
-
-and-false : (q : Bool) → q && false ≡ false
-and-false true = refl
-and-false false = refl
 
 both : (p q : Bool) → p && q ≡ true → (p ≡ true) × (q ≡ true)
 both true true e = (refl, refl)

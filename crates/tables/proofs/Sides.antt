@@ -8,10 +8,10 @@ use mathlib.Core.Bool.{Bool, true, false, not, _&&_}
 use mathlib.Core.List.{List, [], _∷_, _++_, append-assoc, append-nil}
 use lib.Dec.{eqb}
 use lib.ListN.{drop, getD}
-use borrow.Author.Tests.{eq-eqb, ne-eqb, le-ltb, eqb-true}
+use borrow.Author.Tests.{ne-eqb, le-ltb, eqb-true}
 use Rattle.documents.specs.Lists.{member, isset}
 use Rattle.documents.specs.Terms.{Var, Sym, Meta, Abst, Nil, Cons, Term, Terms, len}
-use Rattle.documents.specs.Rules.{metas, among, simple, areVars, freevars}
+use Rattle.documents.specs.Rules.{metas, simple, areVars, freevars}
 use Rattle.documents.proofs.Lists.{never, and-assoc, and-true}
 use Rattle.tables.specs.Side.{distinct}
 use Rattle.tables.specs.Parts.{held, firstTerms, terms, front, Begins}
@@ -45,12 +45,6 @@ unequal x y u v h = go (eqb x y) (eqb-true x y)
     go true f = ne-eqb u v (h (f refl))
     go false f = refl
 
-among-other : {k s c : ℕ} {ts us : Terms} (m : ℕ × ℕ) → Step k s c ts us → ((k ≡ 2) → (s ≡ m .0) → (c ≡ m .1) → ⊥) → among (metas ts) m ≡ among (metas us) m
-among-other {k = zero} m p e = rw (metas-other p (λ q. omega arith))
-among-other {k = suc zero} m p e = rw (metas-other p (λ q. omega arith))
-among-other {k = suc (suc zero)} {s} {c} m p e = rw (metas-metavariable p refl, unequal s (m .0) c (m .1) (e refl))
-among-other {k = suc (suc (suc k))} m p e = rw (metas-other p (λ q. omega arith))
-
 pub metas-front : {part : List ℕ} → Begins 1 part → metas (terms 1 part) ≡ metas (front part)
 metas-front {part} b = rw (front-term part b) (append-nil (metas (front part)))
 
@@ -64,17 +58,6 @@ module _ {t : List ℕ} {a n : ℕ} (w : Walk t a n) (h : 0 < n) where
   pub metas-behind : (131072 ≤ getD t a 0 → getD t a 0 < 196608 → ⊥)
       → metas (terms n (drop a t)) ≡ metas (terms (n - 1 + getD t (a + 1) 0) (drop (a + 2) t))
   metas-behind o = metas-other (step t a n (w .begins) h) (λ e. o (omega arith) (omega arith))
-
-  -- at the metavariable that is asked for
-  pub among-here : (name count : ℕ) → name ≤ 65535 → getD t a 0 ≡ 131072 + name → getD t (a + 1) 0 ≡ count
-      → among (metas (terms n (drop a t))) (name, count) ≡ true
-  among-here name count f e q =
-      rw (metas-here (omega arith) (omega arith), eq-eqb (getD t a 0 % 65536) name (omega arith), eq-eqb (getD t (a + 1) 0) count q)
-
-  -- at a node that is not it
-  pub among-behind : (name count : ℕ) → (getD t a 0 ≡ 131072 + name → getD t (a + 1) 0 ≡ count → ⊥)
-      → among (metas (terms n (drop a t))) (name, count) ≡ among (metas (terms (n - 1 + getD t (a + 1) 0) (drop (a + 2) t))) (name, count)
-  among-behind name count o = among-other (name, count) (step t a n (w .begins) h) (λ e f q. o (omega arith) q)
 
 -- ---- Terms that are variables
 

@@ -4,9 +4,8 @@ use crate::node::FIRST_METAVARIABLE;
 use crate::node::FIRST_SYMBOL;
 ghost use mathlib.Core.Path.{_≡_};
 ghost use mathlib.Core.Bool.{true};
-ghost use Prim.Native.Nat.{_≤_};
 ghost use Rattle.documents.specs.Lists.{isEmpty, member};
-ghost use Rattle.documents.specs.Rules.{metas, among, simple, areVars, freevars};
+ghost use Rattle.documents.specs.Rules.{metas, simple, areVars, freevars};
 ghost use Rattle.tables.specs.Parts.{front, terms, Begins};
 ghost use Rattle.tables.specs.Side.{distinct};
 
@@ -28,26 +27,6 @@ pub fn plain(part: &[u32]) -> bool
         at += 2;
     }
     true
-}
-
-// The metavariable of this name and argument count stands in the subterm.
-pub fn stands(part: &[u32], name: u32, count: u32) -> bool
-    requires { ⌜ Begins 1 (now part) × (name ≤ 65535) ⌝ }
-    ensures { λ r. ⌜ r ≡ among (metas (front (now (part .entry)))) (name, count) ⌝ }
-{
-    let mut owed: usize = 1;
-    let mut at: usize = 0;
-    while 0 < owed {
-        let arguments = part[at + 1];
-        if part[at] == FIRST_METAVARIABLE + name {
-            if arguments == count {
-                return true;
-            }
-        }
-        owed = owed - 1 + arguments as usize;
-        at += 2;
-    }
-    false
 }
 
 // Each metavariable's arguments are distinct variables.

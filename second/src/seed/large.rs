@@ -71,12 +71,19 @@ fn most_words_on_left() -> Term {
     with_again(vec![first, again])
 }
 
-/// Far too many metavariables; the same on the right in the opposite order, but for the last one,
-/// which with `absent` does not stand on the left.
-pub fn many_metavariables(absent: bool) -> Rule {
-    let last = if absent { SIDE_LEAVES } else { 0 };
-    let right = (1..SIDE_LEAVES).rev().chain([last]).map(nullary).collect();
-    let left = (0..SIDE_LEAVES).map(nullary).collect();
+/// So many metavariables; the same on the right in the opposite order, but for the last one, which
+/// with `absent` does not stand on the left.
+pub fn many_metavariables(many: usize, absent: bool) -> Rule {
+    let last = if absent { many } else { 0 };
+    let right = (1..many).rev().chain([last]).map(nullary).collect();
+    let left = (0..many).map(nullary).collect();
+    Rule::of(&Term::over(1, left), &Term::over(1, right))
+}
+
+/// One metavariable too many, and one of them wherever there is room: nothing parts its places.
+pub fn one_metavariable() -> Rule {
+    let right = vec![nullary(METAVARIABLES); SIDE_LEAVES];
+    let left = (0..SIDE_LEAVES).map(|place| nullary(place.min(METAVARIABLES))).collect();
     Rule::of(&Term::over(1, left), &Term::over(1, right))
 }
 

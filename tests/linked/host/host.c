@@ -15,7 +15,10 @@ enum { STANDARD_INPUT, STANDARD_OUTPUT };
 enum { ALL_MADE, CUT_SHORT, TOO_LONG, NO_SUCH_CALL };
 enum { ANSWER_WORDS = 5, AREAS = 4, BATCH_WORDS = 1 << 22 };
 
-enum call { CALL_READ = 1, CALL_COMPILE = 2 };
+enum call { CALL_STACK, CALL_READ, CALL_COMPILE };
+
+/* Of the stack that calls are made on; and what stands there until it is written to. */
+enum { STACK_BYTES = 1 << 17, PAINT = 0xA5 };
 
 /* Memory that a call is lent, with guards around it. */
 struct area {
@@ -61,6 +64,19 @@ static void make_compile(struct frame *frame, uint32_t *memory[AREAS])
     answer(frame, compiled.number, compiled.words, 0, 0);
 }
 
+/*
+ * For bench/: paints the stack that the calls after this one take, or tells how many bytes from its top they have written to. It is the same
+ * memory each time, though no rule of C says so.
+ */
+__attribute__((noinline)) static uint32_t stack(int look)
+{
+    volatile unsigned char below[STACK_BYTES];
+    uint32_t at = 0;
+    for (; !look && at < STACK_BYTES; at++) below[at] = PAINT;
+    while (at < STACK_BYTES && below[at] == PAINT) at++;
+    return STACK_BYTES - at;
+}
+
 /* Makes a frame's call; gives where the next frame begins, or nothing if there is no such call. */
 static uint32_t *make(struct frame *frame)
 {
@@ -70,6 +86,9 @@ static uint32_t *make(struct frame *frame)
         next += frame->areas[area].words;
     }
     switch (frame->call) {
+    case CALL_STACK:
+        answer(frame, 0, stack(frame->argument), 0, 0);
+        return next;
     case CALL_READ:
         make_read(frame, memory);
         return next;

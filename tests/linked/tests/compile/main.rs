@@ -62,7 +62,7 @@ fn compiles_empty_slices() {
 const ROOM_AND_NONE: &[u32] = &[DONE, CODE_TABLE_SHORT];
 
 /// First come the slips that, unseen, would spoil the test's own memory later.
-const KINDS: [Kind<Compile>; 48] = [
+const KINDS: [Kind<Compile>; 49] = [
     Kind::new("code table one word short", &[CODE_TABLE_SHORT], 10_000, |rng| {
         one(rng, good_rule, lent::one_short)
     }),
@@ -140,6 +140,12 @@ const KINDS: [Kind<Compile>; 48] = [
         &[TOO_MANY_METAVARIABLES],
         1_000,
         refused::metavariables,
+    ),
+    Kind::new(
+        "8 or 9: among many metavariables",
+        &[ABSENT_ON_LEFT, TOO_MANY_METAVARIABLES],
+        4_000,
+        refused::among_many,
     ),
     // The first of several.
     Kind::new("left 2 before all else", &[TOO_MANY_WORDS], 200, |rng| {

@@ -4,7 +4,9 @@ use linked::compile::Compile;
 use second::limits::{ARGUMENTS, BINDERS, DEPTH, INDEX, METAVARIABLES, NODE_WORDS, SIDE_NODES};
 use second::seed::{good_rule, Rng, Rule, Term, SIDE_LEAVES};
 
-use crate::accepted::{applied, name, nested_bodies, repeated, small, with_metavariables};
+use crate::accepted::{
+    applied, name, nested_bodies, repeated, small, with_metavariables, Metavariable,
+};
 use crate::lent::at_any_length;
 
 /// The first words of each kind, and of none.
@@ -232,6 +234,28 @@ fn with_absent(rng: &mut Rng, rule: &Rule) -> Option<Vec<u32>> {
         occurrences(&right).iter().any(|(_, name, count)| !known.contains(&(*name, *count)));
     let within = right.nodes() <= SIDE_NODES && right.depth() <= DEPTH;
     (absent && within).then(|| right.words())
+}
+
+/// As many metavariables as a side has room for, and on the right any of them; then the same but
+/// for one. The names have eight bits somewhere, so that many agree in those that are asked first.
+pub fn among_many(rng: &mut Rng) -> Vec<Compile> {
+    const NAMES: u32 = 256;
+    let counts = rng.between(1, 3);
+    let many = rng.between(METAVARIABLES + 1, (SIDE_NODES - 40) / counts);
+    let shift = rng.below(9);
+    let numbers = rng.distinct(many, NAMES as usize * counts);
+    let known: Vec<Metavariable> =
+        numbers.into_iter().map(|n| ((n % NAMES) << shift, (n / NAMES) as usize)).collect();
+    let left = known.iter().map(|one| applied(rng, *one, counts)).collect();
+    let left = Term::Sym(name(rng), vec![Term::under(counts, Term::over(1, left))]);
+    let right = (0..rng.between(1, many)).map(|_| {
+        let (name, count) = *rng.pick(&known);
+        Term::Meta(name, vec![Term::leaf(1); count])
+    });
+    let right = Term::over(1, right.collect());
+    let all_known = Rule::of(&left, &right);
+    let absent = with_absent(rng, &all_known).map(|right| Rule { right, ..all_known.clone() });
+    absent.iter().chain([&all_known]).map(|rule| at_any_length(rng, rule)).collect()
 }
 
 /// The node number, name and count of each metavariable.

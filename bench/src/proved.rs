@@ -1,0 +1,80 @@
+//! The proved library: linked, or where that cannot be, in the tests' host program, which run.sh
+//! lets the emulator count.
+
+#[cfg(target_arch = "x86_64")]
+pub use linked::engine::linked::{compile, read};
+
+#[cfg(not(target_arch = "x86_64"))]
+pub use hosted::{compile, read, stack};
+
+#[cfg(not(target_arch = "x86_64"))]
+mod hosted {
+    use std::cell::RefCell;
+
+    use linked::call::{Call, Difference};
+    use linked::compile::Compile;
+    use linked::engine::Engine;
+    use linked::guarded::Area;
+    use linked::read::Read;
+    use second::seed::{Rng, Rule};
+    use second::{Answer, ReadAnswer};
+
+    thread_local! {
+        static ENGINE: RefCell<Engine> = RefCell::new(Engine::start().expect("a host program"));
+    }
+
+    pub fn read(
+        file: &[u8],
+        left: &mut [u32],
+        right: &mut [u32],
+        subject: &mut [u32],
+    ) -> ReadAnswer {
+        let lent = [left.len(), right.len(), subject.len()];
+        let [number, left, right, subject, _] = made(Read::new(&mut Rng::new(0), file, lent));
+        ReadAnswer { number, left, right, subject }
+    }
+
+    pub fn compile(left: &[u32], right: &[u32], code: &mut [u32]) -> Answer {
+        let rule = Rule { left: left.to_vec(), right: right.to_vec() };
+        let [number, words, ..] = made(Compile::new(&mut Rng::new(0), &rule, code.len()));
+        Answer { number, words }
+    }
+
+    /// The bytes of the host's stack that a call writes to.
+    pub fn stack(call: impl FnOnce()) -> u32 {
+        made(Stack { look: false });
+        call();
+        made(Stack { look: true })[1]
+    }
+
+    /// Paints the host's stack, or looks at it.
+    #[derive(Clone, PartialEq)]
+    struct Stack {
+        look: bool,
+    }
+
+    impl Call for Stack {
+        const NUMBER: u32 = 0;
+
+        fn areas(&mut self) -> Vec<&mut dyn Area> {
+            Vec::new()
+        }
+
+        fn argument(&self) -> u32 {
+            self.look.into()
+        }
+
+        fn make_second(&mut self) -> linked::call::Answer {
+            Default::default()
+        }
+
+        fn differences(&self, _: &Stack) -> Vec<Difference> {
+            Vec::new()
+        }
+    }
+
+    /// The words that it wrote stay with the host: only its answer is asked for.
+    fn made(call: impl Call) -> linked::call::Answer {
+        ENGINE.with_borrow_mut(|engine| engine.make(&mut [call]).expect("an answer")[0])
+    }
+}
