@@ -241,10 +241,10 @@ module _ {left right : List ℕ} (s : Sides left right) where
     pub code-fits : {code : List ℕ} → codeLength (front left) (front right) ≤ length code → Fits code 0 (words (compile (front left) (front right)))
     code-fits h = let e = length-is in let b = length-small in record { room = omega arith; small = omega arith }
 
-    pub call-done : (code : List ℕ) → codeLength (front left) (front right) ≤ length code
-        → given (Words (codeLength (front left) (front right))) (atFront code (words (compile (front left) (front right)))) ≡ compileCall left right code
+    pub call-done : (code : List ℕ) → codeLength (front left) (front right) ≤ length code → {n : ℕ} → n ≡ codeLength (front left) (front right)
+        → given (Words n) (atFront code (words (compile (front left) (front right)))) ≡ compileCall left right code
     unfolding compileCall
-    call-done code h = let e = length-is in rw (rule-is, le-leb (length (words (compile (front left) (front right)))) (length code) (omega arith), e)
+    call-done code h k = let e = length-is in rw (rule-is, le-leb (length (words (compile (front left) (front right)))) (length code) (omega arith), k ∙ e)
 
   -- ---- What is asked of the sides' own functions
 

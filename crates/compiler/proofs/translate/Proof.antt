@@ -34,4 +34,4 @@ translate-spec =
     (λ c κs. let m = (table-made (replicate 176 0) refl (c .before .before .before .before .before .before .before .before .before .before .before .enter-all .ensures) (c .before .before .before .before .before .before .before .before .first .given .1)) in let r = c .before .before .right-words .ensures in let e = m .counts in let t = (rows-of (c .before .before .before .before .before .before .before .before .before .before .before .before .before .before .before .before .args .left .now) (table-made (replicate 176 0) refl (c .before .before .before .before .before .before .before .before .before .before .before .enter-all .ensures) (c .before .before .before .before .before .before .before .before .first .given .1)) (c .before .before .before .before .before .before .before .before .before .before .before .enter-all .kept .1 .1 .0)) in record { sides = c .before .before .before .before .before .before .before .before .before .before .before .before .before .before .before .before .pre; entries = t .entries; few = t .few; fits = code-fits (c .before .before .before .before .before .before .before .before .before .before .before .before .before .before .before .before .pre) (sym (c .before .before .before .before .all-found .ensures ∙ found-rows (metas (front (c .before .before .before .before .before .before .before .before .before .before .before .before .before .before .before .before .args .right .now))) (rows-of (c .before .before .before .before .before .before .before .before .before .before .before .before .before .before .before .before .args .left .now) (table-made (replicate 176 0) refl (c .before .before .before .before .before .before .before .before .before .before .before .enter-all .ensures) (c .before .before .before .before .before .before .before .before .first .given .1)) (c .before .before .before .before .before .before .before .before .before .before .before .enter-all .kept .1 .1 .0))) ∙ not-false _ (c .before .before .before .if1 .left)) (m .few) (omega arith) })
     (λ c. let m = (table-made (replicate 176 0) refl (c .before .before .before .before .before .before .before .before .before .before .before .before .before .before .enter-all .ensures) (c .before .before .before .before .before .before .before .before .before .before .before .first .given .1)) in let r = c .before .before .before .before .before .right-words .ensures in let b = length-small (c .before .before .before .before .before .before .before .before .before .before .before .before .before .before .before .before .before .before .before .pre) (sym (c .before .before .before .before .before .before .before .all-found .ensures ∙ found-rows (metas (front (c .before .before .before .before .before .before .before .before .before .before .before .before .before .before .before .before .before .before .before .args .right .now))) (rows-of (c .before .before .before .before .before .before .before .before .before .before .before .before .before .before .before .before .before .before .before .args .left .now) (table-made (replicate 176 0) refl (c .before .before .before .before .before .before .before .before .before .before .before .before .before .before .enter-all .ensures) (c .before .before .before .before .before .before .before .before .before .before .before .first .given .1)) (c .before .before .before .before .before .before .before .before .before .before .before .before .before .before .enter-all .kept .1 .1 .0))) ∙ not-false _ (c .before .before .before .before .before .before .if1 .left)) (m .few) in let e = m .counts in search needs)
     (λ c. search needs)
-    (λ c. let m = (table-made (replicate 176 0) refl (c .before .before .before .before .before .before .before .before .before .before .before .before .before .before .enter-all .ensures) (c .before .before .before .before .before .before .before .before .before .before .before .first .given .1)) in let r = c .before .before .before .before .before .right-words .ensures in let e = m .counts in rw (c .before .before .generate .ensures, e, r) (call-done (c .before .before .before .before .before .before .before .before .before .before .before .before .before .before .before .before .before .before .before .pre) (sym (c .before .before .before .before .before .before .before .all-found .ensures ∙ found-rows (metas (front (c .before .before .before .before .before .before .before .before .before .before .before .before .before .before .before .before .before .before .before .args .right .now))) (rows-of (c .before .before .before .before .before .before .before .before .before .before .before .before .before .before .before .before .before .before .before .args .left .now) (table-made (replicate 176 0) refl (c .before .before .before .before .before .before .before .before .before .before .before .before .before .before .enter-all .ensures) (c .before .before .before .before .before .before .before .before .before .before .before .first .given .1)) (c .before .before .before .before .before .before .before .before .before .before .before .before .before .before .enter-all .kept .1 .1 .0))) ∙ not-false _ (c .before .before .before .before .before .before .if1 .left)) (m .few) (c .before .before .before .before .before .before .before .before .before .before .before .before .before .before .before .before .before .before .before .args .code .now) (omega arith))))
+    (λ c. let m = (table-made (replicate 176 0) refl (c .before .before .before .before .before .before .before .before .before .before .before .before .before .before .enter-all .ensures) (c .before .before .before .before .before .before .before .before .before .before .before .first .given .1)) in let r = c .before .before .before .before .before .right-words .ensures in let e = m .counts in rw (c .before .before .generate .ensures) (call-done (c .before .before .before .before .before .before .before .before .before .before .before .before .before .before .before .before .before .before .before .pre) (sym (c .before .before .before .before .before .before .before .all-found .ensures ∙ found-rows (metas (front (c .before .before .before .before .before .before .before .before .before .before .before .before .before .before .before .before .before .before .before .args .right .now))) (rows-of (c .before .before .before .before .before .before .before .before .before .before .before .before .before .before .before .before .before .before .before .args .left .now) (table-made (replicate 176 0) refl (c .before .before .before .before .before .before .before .before .before .before .before .before .before .before .enter-all .ensures) (c .before .before .before .before .before .before .before .before .before .before .before .first .given .1)) (c .before .before .before .before .before .before .before .before .before .before .before .before .before .before .enter-all .kept .1 .1 .0))) ∙ not-false _ (c .before .before .before .before .before .before .if1 .left)) (m .few) (c .before .before .before .before .before .before .before .before .before .before .before .before .before .before .before .before .before .before .before .args .code .now) (omega arith) (omega arith))))
