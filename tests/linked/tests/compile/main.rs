@@ -16,7 +16,9 @@ use linked::engine::linked::compile;
 use linked::numbers::*;
 use order::{first_due, Defect};
 use second::limits::{ARGUMENTS, BINDERS, DEPTH, METAVARIABLES, SIDE_NODES};
-use second::seed::{good_rule, Rng, Rule, Term};
+#[cfg(target_arch = "x86_64")]
+use second::seed::Term;
+use second::seed::{good_rule, Rng, Rule};
 
 /// The numbers that a compiler gives.
 const NUMBERS: [u32; 10] = [
