@@ -64,3 +64,6 @@ tables read file smallest three beta odd largest refused
 echo
 tables compile rule small beta wide deep checks repeated most growing-32 growing-64 growing-128 growing-256 \
     refused-8 refused-9-28 refused-9-56 refused-9-112 refused-9 refused-9-one refused-10
+echo
+tables check code beta most nested-bodies nested-blocks nested-both \
+    {match,checks,eqi,eqi-pairs,eqi-guard,cells,blocks,pushi-body,pushi-guard}-{256,1024,4096} refused-last refused-long

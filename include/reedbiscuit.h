@@ -127,6 +127,14 @@ enum {
 struct reed_answer reed_compile(const uint32_t *left, size_t left_length, const uint32_t *right, size_t right_length, uint32_t *code,
                                 size_t code_length);
 
+/*
+ * Checks code, whoever wrote it: REED_DONE if it passes, REED_CODE_DOES_NOT_PASS if not; writes nothing.
+ *
+ * What code must fulfil is document 01's 'When code passes'; all that reed_compile writes does. Any words may be handed in, and any number
+ * of them, none too; code that passes has 1 to REED_CODE_WORDS.
+ */
+uint32_t reed_check(const uint32_t *code, size_t code_length);
+
 #ifdef __cplusplus
 }
 #endif

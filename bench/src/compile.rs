@@ -20,14 +20,12 @@ pub struct LentRule {
 impl Case for LentRule {
     fn named(name: &str) -> LentRule {
         let rule = rule_of(name);
-        let mut code = vec![0; CODE_WORDS];
-        let words = second::compile(&rule.left, &rule.right, &mut code).words as usize;
+        let words = code_of(&rule).len();
         let number = number_of(name);
         if number != CODE_TABLE_SHORT {
-            return LentRule { rule, code, number, words };
+            return LentRule { rule, code: vec![0; CODE_WORDS], number, words };
         }
-        code.truncate(words - 1);
-        LentRule { rule, code, number, words: 0 }
+        LentRule { rule, code: vec![0; words - 1], number, words: 0 }
     }
 
     fn words(&self) -> usize {
@@ -56,7 +54,15 @@ fn number_of(name: &str) -> u32 {
     }
 }
 
-fn rule_of(name: &str) -> Rule {
+/// The code of a rule; of a refused one, none.
+pub fn code_of(rule: &Rule) -> Vec<u32> {
+    let mut code = vec![0; CODE_WORDS];
+    let words = second::compile(&rule.left, &rule.right, &mut code).words;
+    code.truncate(words as usize);
+    code
+}
+
+pub fn rule_of(name: &str) -> Rule {
     match name {
         "small" => Rule::of(&Sym(1, vec![nullary(1)]), &nullary(1)),
         "beta" => beta(),

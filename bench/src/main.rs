@@ -4,9 +4,10 @@
 //! another machine than x86-64 not for `second`.
 //! `reed-bench CALL SIDE CASE words`: prints by how many words the instructions are to be divided.
 //!
-//! CALL is `read` or `compile`, SIDE is `reedbiscuit` or `second`; `read.rs` and `compile.rs` know
-//! the cases. run.sh makes tables of it all.
+//! CALL is `read`, `compile` or `check`, SIDE is `reedbiscuit` or `second`; `read.rs`, `compile.rs`
+//! and `check.rs` know the cases. run.sh makes tables of it all.
 
+mod check;
 mod compile;
 mod proved;
 mod read;
@@ -39,6 +40,7 @@ fn main() {
     match call.as_str() {
         "read" => measure(read::File::named(case), side, what),
         "compile" => measure(compile::LentRule::named(case), side, what),
+        "check" => measure(check::LentCode::named(case), side, what),
         _ => panic!("no such call: {call}"),
     }
 }

@@ -2,16 +2,17 @@
 //! lets the emulator count.
 
 #[cfg(target_arch = "x86_64")]
-pub use linked::engine::linked::{compile, read};
+pub use linked::engine::linked::{check, compile, read};
 
 #[cfg(not(target_arch = "x86_64"))]
-pub use hosted::{compile, read, stack};
+pub use hosted::{check, compile, read, stack};
 
 #[cfg(not(target_arch = "x86_64"))]
 mod hosted {
     use std::cell::RefCell;
 
     use linked::call::{Call, Difference};
+    use linked::check::Check;
     use linked::compile::Compile;
     use linked::engine::Engine;
     use linked::guarded::Area;
@@ -38,6 +39,10 @@ mod hosted {
         let rule = Rule { left: left.to_vec(), right: right.to_vec() };
         let [number, words, ..] = made(Compile::new(&mut Rng::new(0), &rule, code.len()));
         Answer { number, words }
+    }
+
+    pub fn check(code: &[u32]) -> u32 {
+        made(Check::new(&mut Rng::new(0), code))[0]
     }
 
     /// The bytes of the host's stack that a call writes to.

@@ -15,7 +15,7 @@ enum { STANDARD_INPUT, STANDARD_OUTPUT };
 enum { ALL_MADE, CUT_SHORT, TOO_LONG, NO_SUCH_CALL };
 enum { ANSWER_WORDS = 5, AREAS = 4, BATCH_WORDS = 1 << 22 };
 
-enum call { CALL_STACK, CALL_READ, CALL_COMPILE };
+enum call { CALL_STACK, CALL_READ, CALL_COMPILE, CALL_CHECK };
 
 /* Of the stack that calls are made on; and what stands there until it is written to. */
 enum { STACK_BYTES = 1 << 17, PAINT = 0xA5 };
@@ -64,6 +64,12 @@ static void make_compile(struct frame *frame, uint32_t *memory[AREAS])
     answer(frame, compiled.number, compiled.words, 0, 0);
 }
 
+static void make_check(struct frame *frame, uint32_t *memory[AREAS])
+{
+    const struct area *code = &frame->areas[0];
+    answer(frame, reed_check(memory[0] + code->before, code->length), 0, 0, 0);
+}
+
 /*
  * For bench/: paints the stack that the calls after this one take, or tells how many bytes from its top they have written to. It is the same
  * memory each time, though no rule of C says so.
@@ -94,6 +100,9 @@ static uint32_t *make(struct frame *frame)
         return next;
     case CALL_COMPILE:
         make_compile(frame, memory);
+        return next;
+    case CALL_CHECK:
+        make_check(frame, memory);
         return next;
     default:
         return 0;

@@ -60,9 +60,16 @@ impl<T: Unit> Guarded<T> {
     /// So many units to read, between guards. The guard before has any length from four to seven,
     /// so that bytes begin at every alignment.
     pub fn holding(rng: &mut Rng, part: &[T]) -> Guarded<T> {
+        Guarded::holding_before(rng, part, &[])
+    }
+
+    /// The same with these units right behind the part, the guard's first ones: a call that looked
+    /// at them would take them for a good end of the part.
+    pub fn holding_before(rng: &mut Rng, part: &[T], behind: &[T]) -> Guarded<T> {
         let before = GUARD + rng.below(GUARD);
         let mut memory: Vec<T> = (0..before).map(|_| T::noise(rng)).collect();
         memory.extend(part);
+        memory.extend(behind);
         memory.extend((0..GUARD).map(|_| T::noise(rng)));
         Guarded { memory, before, length: part.len() }
     }

@@ -10,4 +10,5 @@ pub const ARGUMENTS_NOT_DISTINCT_VARIABLES: u32 = 7;
 pub const ABSENT_ON_LEFT: u32 = 8;
 pub const TOO_MANY_METAVARIABLES: u32 = 9;
 pub const CODE_TABLE_SHORT: u32 = 10;
+pub const CODE_DOES_NOT_PASS: u32 = 11;
 pub const BAD_FILE: u32 = 17;

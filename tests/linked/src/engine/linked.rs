@@ -37,6 +37,8 @@ extern "C" {
         code: *mut u32,
         code_length: usize,
     ) -> ReedAnswer;
+
+    fn reed_check(code: *const u32, code_length: usize) -> u32;
 }
 
 #[inline]
@@ -72,4 +74,10 @@ pub fn compile(left: &[u32], right: &[u32], code: &mut [u32]) -> Answer {
         )
     };
     Answer { number, words }
+}
+
+#[inline]
+pub fn check(code: &[u32]) -> u32 {
+    // Sound: as for `read`.
+    unsafe { reed_check(code.as_ptr(), code.len()) }
 }
