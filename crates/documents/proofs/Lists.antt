@@ -1,11 +1,14 @@
 -- Tests and answers: what a test that passed says, and what an answer that came through a test says.
 use mathlib.Core.Path.{_≡_, refl, ap, fun-ext}
-use Prim.Native.Nat.{ℕ}
+use Prim.Native.Nat.{ℕ, _+_, _<_}
+use native.Mathlib.Numerals.{add-one}
 use native.Mathlib.Omega.{arith}
 use mathlib.Core.Bool.{Bool, true, false, not, _&&_, cond}
 use mathlib.Core.Option.{Option, none, some}
 use mathlib.Core.List.{List, [], _∷_, _++_}
 use lib.Dec.{T, eqb}
+use lib.ListN.{length, getD, drop}
+use lib.Seq.{drop-cons}
 use borrow.Author.Tests.{eqb-true}
 use Rattle.documents.specs.Lists.{every, need, andThen}
 
@@ -79,3 +82,7 @@ andThen-some (some a) = refl
 pub andThen-is : {A B : Type 0} (o : Option A) (f : A → Option B) (b : B) → andThen o f ≡ some b → (a : A) × (o ≡ some a) × (f a ≡ some b)
 andThen-is none f b e = never (cc)
 andThen-is (some a) f b e = (a, refl, e)
+
+-- what stands at a place, and behind it
+pub at-cons : (l : List ℕ) (i : ℕ) → i < length l → drop i l ≡ getD l i 0 ∷ drop (i + 1) l
+at-cons l i h = rw (add-one i, drop-cons l i 0 h)

@@ -1,16 +1,15 @@
 -- Keys that are looked for: one by one, or first those with a bit 0 among those with a bit 0, and then the others among the others.
 use mathlib.Core.Path.{_≡_, refl, sym, ap, _∙_}
 use Prim.Native.Nat.{ℕ, _+_, _-_, _≤_, _<_}
-use native.Mathlib.Numerals.{add-one}
 use native.Mathlib.Omega.{arith}
 use mathlib.Core.Bool.{Bool, true, false, not, _&&_, _||_, or-true, or-assoc}
 use mathlib.Core.List.{List, [], _∷_, _++_}
 use lib.Dec.{eqb}
 use lib.ListN.{length, take, drop, getD, length-drop, length-append, take-append-drop}
-use lib.Seq.{drop-cons, drop-at, take-all, length-take-le}
+use lib.Seq.{drop-at, take-all, length-take-le}
 use borrow.Author.Tests.{eqb-true, eq-eqb, ne-eqb, not-true}
 use Rattle.documents.specs.Lists.{every, member}
-use Rattle.documents.proofs.Lists.{never, on, T-of, of-and, and-of, case}
+use Rattle.documents.proofs.Lists.{never, on, T-of, of-and, and-of, case, at-cons}
 use Rattle.keys.specs.Keys.{isLow, Parted}
 
 -- ---- One by one
@@ -22,9 +21,6 @@ none-left l at h = go (drop at l) (let e = length-drop at l in omega arith)
     go : (d : List ℕ) → length d ≡ 0 → d ≡ []
     go [] e = refl
     go (x ∷ d) e = absurd (omega arith)
-
-pub next-left : (l : List ℕ) (at : ℕ) → at < length l → drop at l ≡ getD l at 0 ∷ drop (at + 1) l
-next-left l at h = rw (add-one at) (drop-cons l at 0 h)
 
 -- whether a key is among those still to be looked at is what was asked of all
 pub record Looking (keys : List ℕ) (key at : ℕ) : Type 0 where
@@ -39,7 +35,7 @@ module _ {l : List ℕ} {k at : ℕ} (i : Looking l k at) where
 
   module _ (h : at < length l) where
     looked : (q : Bool) → eqb (getD l at 0) k ≡ q → q || member (drop (at + 1) l) k ≡ member l k
-    looked q e = sym (ap (λ (d : List ℕ). member d k) (next-left l at h) ∙ ap (λ (q : Bool). q || member (drop (at + 1) l) k) e) ∙ i .same
+    looked q e = sym (ap (λ (d : List ℕ). member d k) (at-cons l at h) ∙ ap (λ (q : Bool). q || member (drop (at + 1) l) k) e) ∙ i .same
 
     pub looking-found : getD l at 0 ≡ k → true ≡ member l k
     looking-found e = looked true (eq-eqb (getD l at 0) k e)
@@ -60,7 +56,7 @@ module _ {left right : List ℕ} {at : ℕ} (i : Asking left right at) where
 
   module _ (h : at < length right) where
     asked : (q : Bool) → member left (getD right at 0) ≡ q → q && every (member left) (drop (at + 1) right) ≡ every (member left) right
-    asked q e = sym (ap (every (member left)) (next-left right at h) ∙ ap (λ (q : Bool). q && every (member left) (drop (at + 1) right)) e) ∙ i .same
+    asked q e = sym (ap (every (member left)) (at-cons right at h) ∙ ap (λ (q : Bool). q && every (member left) (drop (at + 1) right)) e) ∙ i .same
 
     pub asking-missing : member left (getD right at 0) ≡ false → false ≡ every (member left) right
     asking-missing e = asked false e

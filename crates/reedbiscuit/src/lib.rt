@@ -1,8 +1,9 @@
 // The C interface: each call hands its slices on to the crate that does the work, and gives the answer back as 01's numbers.
+use checker::Checked;
 use compiler::Compiled;
 use reader::Answer;
 ghost use mathlib.Core.Path.{_≡_};
-ghost use Rattle.documents.specs.Calls.{readCall, compileCall};
+ghost use Rattle.documents.specs.Calls.{readCall, compileCall, checkCall};
 ghost use Rattle.reedbiscuit.specs.Answers.{readNumber, readGiven, compileNumber, compileGiven};
 
 // 01's number where nothing is refused.
@@ -84,6 +85,17 @@ fn compile_number(answer: Compiled) -> u32
     ensures { λ r. ⌜ r ≡ compileNumber answer ⌝ }
 {
     let Compiled::Refused(why) = answer else {
+        return DONE;
+    };
+    documents::number(why)
+}
+
+// Document 01's check: whether code passes, whoever compiled it.
+#[no_mangle]
+pub extern "C" fn reed_check(code: &[u32]) -> u32
+    ensures { λ r. ⌜ r ≡ checkCall (now (code .entry)) ⌝ }
+{
+    let Checked::Refused(why) = checker::check(code) else {
         return DONE;
     };
     documents::number(why)

@@ -1,0 +1,5 @@
+pub mod Making
+pub mod Pushing
+pub mod Ending
+pub mod Current
+pub mod Matching

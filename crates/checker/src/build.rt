@@ -1,0 +1,223 @@
+// The build part: blocks and bodies, by recursion; the words that are left fall.
+use documents::Refusal;
+use documents::op::ADBMAL;
+use documents::op::CELL;
+use documents::op::LAMBDA;
+use documents::op::PUSHI;
+use documents::op::PUSHIMM;
+use documents::op::PUSHVAR;
+use indices::all_below;
+use indices::insert;
+use instructions::Place;
+use instructions::fetch;
+use turns::D_SHIFT;
+use turns::MOST_ARGUMENTS;
+use turns::MOST_NAME;
+use turns::MOST_PAIRS;
+use turns::entries::Entries;
+use turns::entries::Found;
+use turns::entries::find;
+use turns::entries::has_depth;
+use turns::entries::listed;
+ghost use mathlib.Core.Path.{_≡_};
+ghost use mathlib.Core.List.{[], _∷_};
+ghost use mathlib.Core.Bool.{_&&_, false};
+ghost use Prim.Native.Nat.{_+_, _≤_};
+ghost use lib.Dec.{eqb, ltb};
+ghost use lib.ListN.{length, getD};
+ghost use Rattle.documents.specs.Instructions.{CELL, fixedAfter};
+ghost use Rattle.documents.specs.Passing.{build};
+ghost use Rattle.turns.specs.Held.{entriesOf, Sound};
+ghost use Rattle.checker.specs.Built.{termsOf, termsAt, endedIf, bodiesObey, pushObeys, Ends};
+
+const MOST_OPEN: u32 = 63;
+
+const MOST_NESTED: u32 = 64;
+
+// How instructions ended that made one term: at an ADBMAL, with the place behind it, or with their words.
+pub enum Ended {
+    Shut(usize),
+    Done,
+    Refused(Refusal),
+}
+
+pub enum Terms {
+    Of(usize),
+    Refused(Refusal),
+}
+
+// Instructions from a place on: a block to its ADBMAL; a body, or the whole, to its end.
+pub fn build(
+    code: &[u32],
+    from: usize,
+    end: usize,
+    entries: Entries,
+    l: u32,
+    nest: u32,
+    inside: bool,
+) -> Ended
+    requires { ⌜ (from ≤ end) × (end ≤ length (now code)) × (length (now code) ≤ 4096) × (l ≤ 63) × (nest ≤ 64) × Sound entries ⌝ }
+    ensures { λ r. ⌜ Ends (now (code .entry)) from end (entriesOf (now (code .entry)) entries) l nest inside r ⌝ }
+{
+    let mut at = from;
+    let mut terms: usize = 0;
+    while at < end {
+        let Place::At(next) = fetch(code, at, end) else {
+            return Ended::Refused(Refusal::DoesNotPass);
+        };
+        let op = code[at];
+        if op == ADBMAL {
+            return one_term(terms, Ended::Shut(next));
+        }
+        if op == LAMBDA {
+            if !may_open(l, nest) {
+                return Ended::Refused(Refusal::DoesNotPass);
+            }
+            let Ended::Shut(after) = build(code, next, end, entries, l + 1, nest + 1, inside) else {
+                return Ended::Refused(Refusal::DoesNotPass);
+            };
+            at = after;
+            terms += 1;
+        } else if op == PUSHI {
+            let Place::At(after) = push(code, at + 1, end, entries, l, nest) else {
+                return Ended::Refused(Refusal::DoesNotPass);
+            };
+            at = after;
+            terms += 1;
+        } else {
+            let Terms::Of(now) = plain(code, at, entries, l, inside, terms) else {
+                return Ended::Refused(Refusal::DoesNotPass);
+            };
+            at = next;
+            terms = now;
+        }
+    }
+    one_term(terms, Ended::Done)
+}
+
+// Exactly one term.
+fn one_term(terms: usize, how: Ended) -> Ended
+    ensures { λ r. ⌜ r ≡ endedIf (eqb terms 1) how ⌝ }
+{
+    if terms != 1 {
+        return Ended::Refused(Refusal::DoesNotPass);
+    }
+    how
+}
+
+fn may_open(l: u32, nest: u32) -> bool
+    ensures { λ r. ⌜ r ≡ ltb l 63 && ltb nest 64 ⌝ }
+{
+    if MOST_OPEN <= l {
+        return false;
+    }
+    nest < MOST_NESTED
+}
+
+// The terms after a CELL, PUSHVAR or PUSHIMM.
+fn plain(code: &[u32], at: usize, entries: Entries, l: u32, inside: bool, terms: usize) -> Terms
+    requires { ⌜ (at + 1 + fixedAfter (getD (now code) at 0) ≤ length (now code)) × (terms ≤ 4096) × Sound entries ⌝ }
+    ensures { λ r. ⌜ r ≡ termsAt (now (code .entry)) at (entriesOf (now (code .entry)) entries) inside l terms ⌝ }
+{
+    let op = code[at];
+    if op == CELL {
+        return cell(code[at + 1], code[at + 2], terms);
+    }
+    if op == PUSHVAR {
+        if l <= code[at + 1] {
+            return Terms::Refused(Refusal::DoesNotPass);
+        }
+        return Terms::Of(terms + 1);
+    }
+    if op != PUSHIMM {
+        return Terms::Refused(Refusal::DoesNotPass);
+    }
+    if inside {
+        return Terms::Refused(Refusal::DoesNotPass);
+    }
+    if !has_depth(entries, code[at + 1], l) {
+        return Terms::Refused(Refusal::DoesNotPass);
+    }
+    Terms::Of(terms + 1)
+}
+
+fn cell(name: u32, count: u32, terms: usize) -> Terms
+    requires { ⌜ terms ≤ 4096 ⌝ }
+    ensures { λ r. ⌜ r ≡ termsOf (build [] false 0 0 (CELL name count) (terms ∷ [])) ⌝ }
+{
+    if MOST_NAME < name {
+        return Terms::Refused(Refusal::DoesNotPass);
+    }
+    if MOST_ARGUMENTS < count {
+        return Terms::Refused(Refusal::DoesNotPass);
+    }
+    if terms < count as usize {
+        return Terms::Refused(Refusal::DoesNotPass);
+    }
+    Terms::Of(terms - count as usize + 1)
+}
+
+// A PUSHI whose operands begin at a place.
+fn push(code: &[u32], from: usize, end: usize, entries: Entries, l: u32, nest: u32) -> Place
+    requires { ⌜ (from + 3 ≤ end) × (end ≤ length (now code)) × (length (now code) ≤ 4096) × (l ≤ 63) × (nest ≤ 64) × Sound entries ⌝ }
+    ensures { λ r. ⌜ r ≡ pushObeys (now (code .entry)) from end (entriesOf (now (code .entry)) entries) l nest ⌝ }
+{
+    let Found::Entry(b, guard) = find(entries, code[from]) else {
+        return Place::Refused(Refusal::DoesNotPass);
+    };
+    if code[from + 1] != l + D_SHIFT - b {
+        return Place::Refused(Refusal::DoesNotPass);
+    }
+    let count = code[from + 2];
+    if MOST_PAIRS < count {
+        return Place::Refused(Refusal::DoesNotPass);
+    }
+    let set = listed(code, guard);
+    bodies(code, from + 3, end, entries, l, nest, b, count, set)
+}
+
+// So many bodies behind their keys, these below b; with the set they cover all below b.
+fn bodies(
+    code: &[u32],
+    from: usize,
+    end: usize,
+    entries: Entries,
+    l: u32,
+    nest: u32,
+    b: u32,
+    count: u32,
+    set: u64,
+) -> Place
+    requires { ⌜ (from ≤ end) × (end ≤ length (now code)) × (length (now code) ≤ 4096) × (l ≤ 63) × (nest ≤ 64) × (b ≤ 63) × Sound entries ⌝ }
+    ensures { λ r. ⌜ r ≡ bodiesObey (now (code .entry)) from end count (entriesOf (now (code .entry)) entries) l nest b set ⌝ }
+{
+    let mut at = from;
+    let mut left = count;
+    let mut keys = set;
+    while 0 < left {
+        if end - at < 2 {
+            return Place::Refused(Refusal::DoesNotPass);
+        }
+        let key = code[at];
+        if b <= key {
+            return Place::Refused(Refusal::DoesNotPass);
+        }
+        let words = code[at + 1] as usize;
+        if end - at - 2 < words {
+            return Place::Refused(Refusal::DoesNotPass);
+        }
+        if MOST_NESTED <= nest {
+            return Place::Refused(Refusal::DoesNotPass);
+        }
+        let Ended::Done = build(code, at + 2, at + 2 + words, entries, l, nest + 1, true) else {
+            return Place::Refused(Refusal::DoesNotPass);
+        };
+        keys = insert(keys, key);
+        at = at + 2 + words;
+        left -= 1;
+    }
+    if !all_below(keys, b) {
+        return Place::Refused(Refusal::DoesNotPass);
+    }
+    Place::At(at)
+}

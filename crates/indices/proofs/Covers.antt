@@ -1,0 +1,136 @@
+-- Sets as numbers: which indices are in one after another is inserted, and that a guard's list and keys together cover all below b.
+use mathlib.Core.Path.{_≡_, refl, sym, ap, _∙_}
+use Prim.Native.Nat.{ℕ, zero, suc, _+_, _-_, _*_, _/_, _%_, _^_, _≤_, _<_, max}
+use native.Mathlib.Omega.{arith}
+use mathlib.Core.Bool.{Bool, true, false, _&&_, _||_, cond, or-assoc, or-false, and-false}
+use mathlib.Core.List.{List, [], _∷_}
+use lib.Dec.{eqb, ltb}
+use lib.Bits.{bitOr, or-step, or-shr, and-mask, mask-lt}
+use lib.Pow.{pow-pos, pow-lt, pow-add, split, mod-pow-add, shl-shr}
+use borrow.Author.Tests.{eq-eqb, ne-eqb, eqb-true, ltb-true, ltb-false}
+use Rattle.documents.specs.Lists.{every, member, upTo}
+use Rattle.documents.specs.Passing.{covers}
+use Rattle.documents.proofs.Lists.{never, on, off, case, and-true, every-append}
+use Rattle.indices.specs.Sets.{inserted, gathered, full}
+
+-- index i is in set m
+abbrev pub has : ℕ → ℕ → Bool
+has m i = eqb (m / 2 ^ i % 2) 1
+
+clash : {A : Type 0} {b : Bool} → b ≡ false → b ≡ true → A
+clash p q = let z : true ≡ false = sym q ∙ p in never (cc)
+
+none-there : (i : ℕ) → has 0 i ≡ false
+none-there i =
+    let y : 0 * 2 ^ i ≡ 0 = omega arith in
+    let z : 0 / 2 ^ i ≡ 0 = ap (λ (n : ℕ). n / 2 ^ i) (sym y) ∙ shl-shr 0 i in
+    rw z
+
+-- a power of two has one bit
+one-bit : (k i : ℕ) → has (2 ^ k) i ≡ eqb k i
+one-bit k i =
+    case (λ b. has (2 ^ k) i ≡ eqb k i) (ltb i k)
+    (λ y. below (ltb-true i k (on _ y)))
+    (λ y.
+    case (λ b. has (2 ^ k) i ≡ eqb k i) (eqb k i)
+    (λ z. same (eqb-true k i (on _ z)))
+    (λ z. above (ltb-false i k (off _ y)) (λ e. clash (off _ z) (eq-eqb k i e))))
+  where
+    same : k ≡ i → has (2 ^ k) i ≡ eqb k i
+    same e =
+        let z : 1 * 2 ^ i ≡ 2 ^ i = omega arith in
+        let q : 2 ^ i / 2 ^ i ≡ 1 = ap (λ (n : ℕ). n / 2 ^ i) (sym z) ∙ shl-shr 1 i in
+        rw (e, q, eq-eqb i i refl)
+
+    below : i < k → has (2 ^ k) i ≡ eqb k i
+    below h =
+        let j = k - i - 1 in
+        let e : k ≡ 1 + j + i = omega arith in
+        let p : 2 ^ k ≡ 2 ^ (1 + j) * 2 ^ i = ap (λ (n : ℕ). 2 ^ n) e ∙ pow-add 2 (1 + j) i in
+        let q : 2 ^ k / 2 ^ i ≡ 2 ^ (1 + j) = ap (λ (n : ℕ). n / 2 ^ i) p ∙ shl-shr (2 ^ (1 + j)) i in
+        let r : 2 ^ (1 + j) ≡ 2 * 2 ^ j = pow-add 2 1 j in
+        let z : 2 * 2 ^ j % 2 ≡ 0 = omega arith in
+        rw (q, r, z, ne-eqb k i (λ e. omega arith))
+
+    above : k ≤ i → (k ≡ i → ⊥) → has (2 ^ k) i ≡ eqb k i
+    above h n =
+        let l : 2 ^ k < 2 ^ i = pow-lt (omega arith) in
+        let s = split (2 ^ k) i in
+        let q : 2 ^ k / 2 ^ i ≡ 0 = small (2 ^ k / 2 ^ i) (2 ^ i) (omega arith) in
+        rw (q, ne-eqb k i n)
+      where
+        small : (q p : ℕ) → q * p < p → q ≡ 0
+        small zero p h = refl
+        small (suc q) p h = absurd (omega arith)
+
+or-bit : (m n i : ℕ) → has (bitOr m n) i ≡ has m i || has n i
+or-bit m n i = rw (or-shr m n i) (go (m / 2 ^ i) (n / 2 ^ i))
+  where
+    bits : (x y : ℕ) → x < 2 → y < 2 → eqb (max x y) 1 ≡ eqb x 1 || eqb y 1
+    bits zero zero p q = refl
+    bits zero (suc zero) p q = refl
+    bits (suc zero) zero p q = refl
+    bits (suc zero) (suc zero) p q = refl
+    bits zero (suc (suc y)) p q = absurd (omega arith)
+    bits (suc zero) (suc (suc y)) p q = absurd (omega arith)
+    bits (suc (suc x)) y p q = absurd (omega arith)
+
+    go : (x y : ℕ) → eqb (bitOr x y % 2) 1 ≡ eqb (x % 2) 1 || eqb (y % 2) 1
+    go x y =
+        let s = or-step x y in
+        let e : bitOr x y % 2 ≡ max (x % 2) (y % 2) = omega arith in
+        rw e (bits (x % 2) (y % 2) (omega arith) (omega arith))
+
+insert-bit : (m k i : ℕ) → i < 64 → has (inserted m k) i ≡ has m i || eqb k i
+unfolding inserted
+insert-bit m k i h =
+    case (λ b. has (cond b (bitOr m (2 ^ k)) m) i ≡ has m i || eqb k i) (ltb k 64)
+    (λ y. or-bit m (2 ^ k) i ∙ ap (λ b. has m i || b) (one-bit k i))
+    (λ y. let l = ltb-false k 64 (off _ y) in rw (ne-eqb k i (λ e. omega arith), or-false (has m i)))
+
+gather-bit : (ks : List ℕ) (m i : ℕ) → i < 64 → has (gathered m ks) i ≡ has m i || member ks i
+unfolding gathered
+gather-bit [] m i h = sym (or-false (has m i))
+gather-bit (k ∷ ks) m i h = gather-bit ks (inserted m k) i h ∙ rw (insert-bit m k i h, or-assoc (has m i) (eqb k i) (member ks i))
+
+-- all below b are in a set: bit after bit
+full-every : (m b : ℕ) → full m b ≡ every (has m) (upTo b)
+unfolding full
+full-every m b = rw (and-mask m b) (go b)
+  where
+    digit : (x r p : ℕ) → x < 2 → r < p → eqb (x * p + r) (p + (p - 1)) ≡ eqb r (p - 1) && eqb x 1
+    digit zero r p l h = rw (ne-eqb (0 * p + r) (p + (p - 1)) (λ e. omega arith)) (sym (and-false (eqb r (p - 1))))
+    digit (suc zero) r p l h =
+        case (λ b. eqb (1 * p + r) (p + (p - 1)) ≡ b && true) (eqb r (p - 1))
+        (λ y. let e = eqb-true r (p - 1) (on _ y) in eq-eqb (1 * p + r) (p + (p - 1)) (omega arith))
+        (λ y. ne-eqb (1 * p + r) (p + (p - 1)) (λ e. clash (off _ y) (eq-eqb r (p - 1) (omega arith))))
+    digit (suc (suc x)) r p l h = absurd (omega arith)
+
+    go : (b : ℕ) → eqb (m % 2 ^ b) (2 ^ b - 1) ≡ every (has m) (upTo b)
+    go zero = let e : m % 1 ≡ 0 = omega arith in rw e
+    go (suc b) =
+        let p = pow-pos b in
+        let l : m % 2 ^ b < 2 ^ b = rw (and-mask m b) at (mask-lt m b) in
+        let e : 2 ^ (1 + b) ≡ 2 * 2 ^ b = pow-add 2 1 b in
+        let z : 1 + b ≡ suc b = omega arith in
+        let f : 2 ^ (1 + b) - 1 ≡ 2 ^ b + (2 ^ b - 1) = omega arith in
+        rw (sym z, mod-pow-add m 1 b, f)
+        (digit (m / 2 ^ b % 2) (m % 2 ^ b) (2 ^ b) (omega arith) l
+        ∙ rw (go b, every-append (has m) (upTo b) (b ∷ []), and-true (has m b)))
+
+-- The guard's list and the keys cover all below b.
+pub covers-full : (b : ℕ) (g ks : List ℕ) → b ≤ 63 → covers b g ks ≡ full (gathered (gathered 0 g) ks) b
+covers-full b g ks h = sym (full-every (gathered (gathered 0 g) ks) b ∙ go b h)
+  where
+    one : (i : ℕ) → i < 64 → has (gathered (gathered 0 g) ks) i ≡ member g i || member ks i
+    one i l = gather-bit ks (gathered 0 g) i l ∙ rw (gather-bit g 0 i l, none-there i)
+
+    go : (b : ℕ) → b ≤ 63 → every (has (gathered (gathered 0 g) ks)) (upTo b) ≡ every (λ i. member g i || member ks i) (upTo b)
+    go zero h = refl
+    go (suc b) h =
+        rw (
+          every-append (has (gathered (gathered 0 g) ks)) (upTo b) (b ∷ []),
+          every-append (λ i. member g i || member ks i) (upTo b) (b ∷ []),
+          go b (omega arith),
+          one b (omega arith),
+        )

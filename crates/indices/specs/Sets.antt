@@ -1,0 +1,27 @@
+-- Sets of indices below 64 as numbers: index i is in set m where the i-th bit of m is 1.
+use Prim.Native.Nat.{ℕ, _-_, _^_}
+use mathlib.Core.Bool.{Bool, _&&_, cond}
+use mathlib.Core.List.{List, [], _∷_}
+use lib.Dec.{eqb, ltb}
+use lib.Bits.{bitAnd, bitOr}
+use Rattle.documents.specs.Machine.{firsts}
+use Rattle.documents.specs.Passing.{allBelow, seconds}
+use Rattle.indices.specs.declared.Indices.{Indices}
+use Rattle.indices.specs.declared.Indices.the-variants as indices
+
+-- with one index more, if it is below 64
+unfoldable pub inserted : ℕ → ℕ → ℕ
+inserted m k = cond (ltb k 64) (bitOr m (2 ^ k)) m
+
+-- with all of a list
+unfoldable pub gathered : ℕ → List ℕ → ℕ
+gathered m [] = m
+gathered m (k ∷ ks) = gathered (inserted m k) ks
+
+-- all below b are in it
+unfoldable pub full : ℕ → ℕ → Bool
+full m b = eqb (bitAnd m (2 ^ b - 1)) (2 ^ b - 1)
+
+-- a set with the first indices of pairs, if they are below b and the second ones below d
+unfoldable pub firstsIn : List (ℕ × ℕ) → ℕ → ℕ → ℕ → Indices
+firstsIn ps m b d = cond (allBelow b (firsts ps) && allBelow d (seconds ps)) (indices.Of (gathered m (firsts ps))) indices.Refused
