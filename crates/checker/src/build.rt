@@ -10,10 +10,12 @@ use indices::all_below;
 use indices::insert;
 use instructions::Place;
 use instructions::fetch;
-use turns::D_SHIFT;
-use turns::MOST_ARGUMENTS;
-use turns::MOST_NAME;
-use turns::MOST_PAIRS;
+use instructions::limit::MOST_NAME;
+use instructions::limit::MOST_NESTED;
+use instructions::limit::MOST_OPEN;
+use instructions::limit::MOST_PAIRS;
+use tables::compare::D_SHIFT;
+use tables::node::MOST_ARGUMENTS;
 use turns::entries::Entries;
 use turns::entries::Found;
 use turns::entries::find;
@@ -29,10 +31,6 @@ ghost use Rattle.documents.specs.Instructions.{CELL, fixedAfter};
 ghost use Rattle.documents.specs.Passing.{build};
 ghost use Rattle.turns.specs.Held.{entriesOf, Sound};
 ghost use Rattle.checker.specs.Built.{termsOf, termsAt, endedIf, bodiesObey, pushObeys, Ends};
-
-const MOST_OPEN: u32 = 63;
-
-const MOST_NESTED: u32 = 64;
 
 // How instructions ended that made one term: at an ADBMAL, with the place behind it, or with their words.
 pub enum Ended {

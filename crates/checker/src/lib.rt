@@ -8,9 +8,11 @@ use documents::Refusal;
 use documents::op::CHECK;
 use documents::op::EQI;
 use documents::op::SET;
+use instructions::limit::MOST_CURRENT;
+use instructions::limit::MOST_ENTRIES;
+use instructions::limit::MOST_WORDS;
 use turns::Turned;
 use turns::entries::Entries;
-use turns::entries::MOST_ENTRIES;
 use turns::entries::NO_GUARD;
 use turns::turn;
 ghost use mathlib.Core.Path.{_≡_};
@@ -20,10 +22,6 @@ ghost use lib.ListN.{length, getD, replicate};
 ghost use Rattle.documents.specs.Passing.{matching, passes};
 ghost use Rattle.turns.specs.Held.{entriesOf, Sound};
 ghost use Rattle.checker.specs.Matched.{passesAt, verdict, BuildsAt, guardPut};
-
-const MOST_WORDS: usize = 4096;
-
-const MOST_CURRENT: usize = 256;
 
 pub enum Checked {
     Passes,

@@ -3,6 +3,9 @@ ghost use mathlib.Core.Path.{_≡_};
 ghost use Prim.Native.Nat.{_<_, _≤_};
 ghost use lib.ListN.{length};
 ghost use Rattle.instructions.specs.Places.{fetched};
+
+pub mod limit; // how many of each
+
 use documents::Refusal;
 use documents::op::PUSHI;
 use documents::op::fixed_words;

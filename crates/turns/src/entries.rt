@@ -1,11 +1,10 @@
 // The entries that the match part makes.
 use indices::gather;
+use instructions::limit::MOST_ENTRIES;
 ghost use mathlib.Core.Path.{_≡_};
 ghost use Prim.Native.Nat.{_≤_};
 ghost use Rattle.indices.specs.Sets.{gathered};
 ghost use Rattle.turns.specs.Held.{listAt, foundIn, sameDepth};
-
-pub const MOST_ENTRIES: usize = 16;
 
 // No CHECK stands directly before.
 pub const NO_GUARD: u16 = 0;
@@ -13,8 +12,8 @@ pub const NO_GUARD: u16 = 0;
 // The newest last: the depth b, and as guard the place of its CHECK's list in the code.
 pub struct Entries {
     pub count: usize,
-    pub depths: [u8; 16],
-    pub guards: [u16; 16],
+    pub depths: [u8; MOST_ENTRIES],
+    pub guards: [u16; MOST_ENTRIES],
 }
 
 // The depth and the guard.

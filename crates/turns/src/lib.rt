@@ -3,7 +3,6 @@ pub mod entries; // sixteen entries
 
 use crate::entries::Entries;
 use crate::entries::Found;
-use crate::entries::MOST_ENTRIES;
 use crate::entries::find;
 use crate::entries::has_depth;
 use crate::entries::listed;
@@ -20,6 +19,14 @@ use indices::all_below;
 use indices::firsts;
 use instructions::Place;
 use instructions::fetch;
+use instructions::limit::MOST_CURRENT;
+use instructions::limit::MOST_ENTRIES;
+use instructions::limit::MOST_LISTED;
+use instructions::limit::MOST_NAME;
+use instructions::limit::MOST_OPEN;
+use instructions::limit::MOST_PAIRS;
+use tables::compare::D_SHIFT;
+use tables::node::MOST_ARGUMENTS;
 ghost use mathlib.Core.Path.{_≡_};
 ghost use mathlib.Core.Bool.{_&&_};
 ghost use Prim.Native.Nat.{_+_, _-_, _*_, _<_, _≤_};
@@ -29,22 +36,6 @@ ghost use Rattle.documents.specs.Instructions.{fixedAfter};
 ghost use Rattle.documents.specs.Passing.{allBelow};
 ghost use Rattle.turns.specs.Held.{entriesOf, Sound};
 ghost use Rattle.turns.specs.Turns.{turnIf, turnAt, StaysAt, checkAt, eqiAt};
-
-pub const MOST_NAME: u32 = 65535;
-
-pub const MOST_ARGUMENTS: u32 = 8;
-
-const MOST_CURRENT: usize = 256;
-
-const MOST_DEPTH: u8 = 63;
-
-const MOST_LISTED: u32 = 63;
-
-// Pairs of an EQI, keys of a PUSHI.
-pub const MOST_PAIRS: u32 = 8;
-
-// d is stored as d + 64.
-pub const D_SHIFT: u32 = 64;
 
 // Where the next instruction stands, and how many terms of which depth take the top's place.
 pub enum Turned {
@@ -65,7 +56,7 @@ pub fn turn(code: &[u32], at: usize, entries: Entries, d: u8, below: usize) -> T
         return arguments(code[at + 1], code[at + 2], next, d, below);
     }
     if op == ISABST {
-        if MOST_DEPTH <= d {
+        if MOST_OPEN <= d as u32 {
             return Turned::Refused(Refusal::DoesNotPass);
         }
         return Turned::To(next, 1, d + 1);
