@@ -1,13 +1,13 @@
 -- The match part at a place: what each instruction makes of the state, and where the build part begins.
 use mathlib.Core.Path.{_≡_, refl, sym, ap, _∙_}
-use Prim.Native.Nat.{ℕ, _+_, _-_, _≤_, _<_}
+use Prim.Native.Nat.{ℕ, zero, suc, _+_, _-_, _≤_, _<_}
 use native.Mathlib.Omega.{arith}
 use mathlib.Core.Bool.{Bool, true, false, cond, and-false}
 use mathlib.Core.Option.{Option, none, some}
 use mathlib.Core.List.{List, [], _∷_}
 use lib.Dec.{eqb, leb, ltb}
 use lib.ListN.{length, getD, getElem?, take, drop, set, replicate, length-replicate, length-set}
-use borrow.Author.Tests.{ne-eqb, le-leb, lt-leb, lt-ltb, le-ltb, eqb-true, eqb-false}
+use borrow.Author.Tests.{ne-eqb, le-leb, lt-leb, lt-ltb, le-ltb, eqb-true, eqb-false, ltb-true}
 use Rattle.documents.specs.declared.Refusal.{Refusal}
 use Rattle.documents.specs.declared.Refusal.the-variants.{DoesNotPass}
 use Rattle.documents.specs.Lists.{need, andThen}
@@ -16,15 +16,15 @@ use Rattle.documents.specs.Machine.{firsts}
 use Rattle.documents.specs.Numbers.{numberOf}
 use Rattle.documents.specs.Calls.{checkCall}
 use Rattle.documents.specs.Passing.{Slot, slot, withSlot, covers, seconds, allBelow, times, Matching, matching, matchTop, matchStep, oneTerm, build, builds, andThenHolds, parts, passes}
-use Rattle.documents.proofs.Lists.{never, case, on, off}
+use Rattle.documents.proofs.Lists.{never, case, on, off, T-of, of-and}
 use Rattle.instructions.specs.Places.{programAt, readAt}
 use Rattle.instructions.proofs.Reading.{First, read-opcode, read-within, read-check, program-plain, program-first, program-done}
 use Rattle.turns.specs.declared.Turned.{Turned}
 use Rattle.turns.specs.declared.entries.Entries.{Entries}
 use Rattle.turns.specs.declared.Turned.the-variants as turned
-use Rattle.turns.specs.Held.{stacked, listAt, slots, entriesOf, Low, Sound}
-use Rattle.turns.specs.Turns.{isThere, allowed, termsPut, depthPut, turnIf, turnAt}
-use Rattle.turns.proofs.Turning.{turn-read, turn-none, Ranged, turn-range}
+use Rattle.turns.specs.Held.{stacked, listAt, slots, entriesOf, Low, Small, AllSmall, Sound}
+use Rattle.turns.specs.Turns.{isThere, allowed, termsPut, depthPut, turnIf, turnBy, turnAt}
+use Rattle.turns.proofs.Turning.{turn-read, turn-none, Ranged, turn-range, needed-there}
 use Rattle.turns.proofs.Entered.{list-none, list-at, entries-length, slots-more}
 use Rattle.checker.specs.declared.Checked.{Checked}
 use Rattle.checker.specs.declared.Checked.the-variants.{Passes, Refused}
@@ -106,6 +106,30 @@ no-list (PUSHVAR x) h = refl
 no-list (PUSHIMM e) h = refl
 no-list (PUSHI e D a) h = refl
 
+-- a list that is allowed at a depth of at most 63 has indices below 64
+listed-small : (i : Instruction) (d below : ℕ) (es : List Slot) → d ≤ 63 → allowed i d below es ≡ true → allBelow 64 (listPut i) ≡ true
+listed-small (IS s n) d below es l h = refl
+listed-small ISABST d below es l h = refl
+listed-small NEXT d below es l h = refl
+listed-small (CHECK vs) d below es l h = go vs (needed-there (allBelow d vs) _ (needed-there (leb (length vs) 63) _ h .1) .0)
+  where
+    go : (ks : List ℕ) → allBelow d ks ≡ true → allBelow 64 ks ≡ true
+    go [] e = refl
+    go (k ∷ ks) e =
+        let q = of-and (ltb k d) (allBelow d ks) (T-of _ e) in
+        let u = ltb-true k d (on _ (q .0)) in
+        rw (lt-ltb k 64 (omega arith)) (go ks (on _ (q .1)))
+listed-small SET d below es l h = refl
+listed-small (EQVAR x) d below es l h = refl
+listed-small (EQIMM e) d below es l h = refl
+listed-small (EQI e D ps) d below es l h = refl
+listed-small (CELL s n) d below es l h = refl
+listed-small LAMBDA d below es l h = refl
+listed-small ADBMAL d below es l h = refl
+listed-small (PUSHVAR x) d below es l h = refl
+listed-small (PUSHIMM e) d below es l h = refl
+listed-small (PUSHI e D a) d below es l h = refl
+
 -- ---- from instruction to instruction
 
 abbrev pub turnedOn : Turned → (ℕ → ℕ → ℕ → Bool) → Bool
@@ -163,6 +187,18 @@ module _ (t : List ℕ) (a : ℕ) (lo : a < length t) where
       there true q = let z : CHECK (take (getD t (a + 1) 0) (drop (a + 2) t)) ≡ i = cc in rw (sym z)
       there false q = never (cc)
 
+  -- so the guard that a turn leaves is small
+  pub turn-small : (d below : ℕ) (es : List Slot) (p n b : ℕ) → d ≤ 63 → turned.To p n b ≡ turnAt t a d below es → Small t (guardPut (getD t a 0) a)
+  unfolding turnAt
+  turn-small d below es p n b l h = go (readAt t a (length t)) refl (sym h)
+    where
+      go : (o : Option Read) → readAt t a (length t) ≡ o → turnBy o a d below es ≡ turned.To p n b → Small t (guardPut (getD t a 0) a)
+      go none r q = never (cc)
+      go (some (whole i m)) r q =
+          case (λ x. turnIf x (a + 1 + m) (termsPut i) (depthPut i d) ≡ turned.To p n b → Small t (guardPut (getD t a 0) a)) (allowed i d below es)
+          (λ y s. rw (sym (list-here i m r)) (listed-small i d below es l (on _ y)))
+          (λ y s. never (cc)) q
+
   -- the state after a turn
   pub passes-turn : (d : ℕ) (ds : List ℕ) (es : List Slot) (g : List ℕ) → getD t a 0 ≤ 7
       → passesAt t a (matching (d ∷ ds) es g)
@@ -219,10 +255,33 @@ pub record Matched (t current : List ℕ) (terms : ℕ) (n : Entries) (guard a :
   pub many : terms ≤ 256
   pub whole-current : length current ≡ 256
   pub low : Low current
-  pub sound : Sound n
+  pub sound : Sound t n
   pub whole-depths : length (n .depths) ≡ 16
   pub whole-guards : length (n .guards) ≡ 16
+  pub listed : Small t guard
   pub within : a ≤ length t
+
+-- no guard has no index
+no-guard : (t : List ℕ) → Small t 0
+no-guard t = rw (list-none t 0 refl)
+
+small-replicate : (t : List ℕ) (n : ℕ) → AllSmall t (replicate n 0)
+small-replicate t n = record { small = go n }
+  where
+    go : (n i : ℕ) → Small t (getD (replicate n 0) i 0)
+    go zero i = no-guard t
+    go (suc n) zero = no-guard t
+    go (suc n) (suc i) = go n i
+
+small-set : {t gs : List ℕ} (k g : ℕ) → AllSmall t gs → Small t g → AllSmall t (set gs k g)
+small-set {t} {gs} k g p h = record { small = λ i. go gs k i (p .small) }
+  where
+    go : (xs : List ℕ) (k i : ℕ) → ((i : ℕ) → Small t (getD xs i 0)) → Small t (getD (set xs k g) i 0)
+    go [] k i q = q i
+    go (x ∷ xs) zero zero q = h
+    go (x ∷ xs) zero (suc i) q = q (suc i)
+    go (x ∷ xs) (suc k) zero q = q 0
+    go (x ∷ xs) (suc k) (suc i) q = go xs k i (λ j. q (suc j))
 
 pub matched-from : (t : List ℕ) → Matched t (replicate 256 0) 1 (record { count = 0; depths = replicate 16 0; guards = replicate 16 0 }) 0 0
 unfolding stacked slots
@@ -231,9 +290,10 @@ matched-from t = record {
   many = omega arith;
   whole-current = refl;
   low = low-replicate 256 (omega arith);
-  sound = record { few = omega arith; depths = low-replicate 16 (omega arith) };
+  sound = record { few = omega arith; depths = low-replicate 16 (omega arith); guards = small-replicate t 16 };
   whole-depths = refl;
   whole-guards = refl;
+  listed = no-guard t;
   within = omega arith;
 }
 
@@ -300,6 +360,7 @@ module _ {t current : List ℕ} {terms : ℕ} {n : Entries} {guard a : ℕ} (m :
               sound = m .sound;
               whole-depths = m .whole-depths;
               whole-guards = m .whole-guards;
+              listed = rw u (turn-small t a lo d (terms - 1) (entriesOf t n) p c b top-low (sym e ∙ q));
               within = ranged .within;
             }
 
@@ -316,9 +377,10 @@ module _ {t current : List ℕ} {terms : ℕ} {n : Entries} {guard a : ℕ} (m :
                     many = ranged .current;
                     whole-current = new-length;
                     low = new-low;
-                    sound = record { few = omega arith; depths = low-set (n .count) (m .sound .depths) top-low };
+                    sound = record { few = omega arith; depths = low-set (n .count) (m .sound .depths) top-low; guards = small-set (n .count) guard (m .sound .guards) (m .listed) };
                     whole-depths = length-set (n .depths) (n .count) d ∙ x;
                     whole-guards = length-set (n .guards) (n .count) guard ∙ y;
+                    listed = no-guard t;
                     within = ranged .within;
                   }
 

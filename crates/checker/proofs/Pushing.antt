@@ -131,10 +131,10 @@ module _ (t : List ℕ) (a e : ℕ) (n : Entries) (l nest : ℕ) where
         let c = bodies-count (drop (a + 3) t) 0 (e - (a + 3)) (getD t (a + 2) 0) o m r in
         rw (found-slot n (getD t a 0) b g f t, c, lt-leb (getD t (a + 2) 0) 8 h, and-false (eqb (getD t (a + 1) 0 + b) (l + 64)))))
 
-    pub push-bodies : (m : ℕ) → getD t (a + 1) 0 + b ≡ l + 64 → getD t (a + 2) 0 ≤ 8 → b ≤ 63 → m ≡ gathered 0 (listAt t g)
+    pub push-bodies : (m : ℕ) → getD t (a + 1) 0 + b ≡ l + 64 → getD t (a + 2) 0 ≤ 8 → m ≡ gathered 0 (listAt t g)
         → bodiesObey t (a + 3) e (getD t (a + 2) 0) (entriesOf t n) l nest b m ≡ pushObeys t a e (entriesOf t n) l nest
     unfolding bodiesObey
-    push-bodies m q h k u = sym (push-is t a e (entriesOf t n) l nest ∙ behind-same (bodiesAt t (a + 3) e (getD t (a + 2) 0)) e _ _
+    push-bodies m q h u = sym (push-is t a e (entriesOf t n) l nest ∙ behind-same (bodiesAt t (a + 3) e (getD t (a + 2) 0)) e _ _
         (λ o j r.
         let c = bodies-count (drop (a + 3) t) 0 (e - (a + 3)) (getD t (a + 2) 0) o j r in
         rw (
@@ -142,7 +142,7 @@ module _ (t : List ℕ) (a e : ℕ) (n : Entries) (l nest : ℕ) where
           c,
           le-leb (getD t (a + 2) 0) 8 h,
           eq-eqb (getD t (a + 1) 0 + b) (l + 64) q,
-          covers-full b (listAt t g) (keys o) k,
+          covers-full b (listAt t g) (keys o),
           u,
           and-assoc (allBelow b (keys o)) (full (gathered (gathered 0 (listAt t g)) (keys o)) b) (build (entriesOf t n) true l nest o),
         )))

@@ -54,7 +54,7 @@ pub fn build(
     nest: u32,
     inside: bool,
 ) -> Ended
-    requires { ⌜ (from ≤ end) × (end ≤ length (now code)) × (length (now code) ≤ 4096) × (l ≤ 63) × (nest ≤ 64) × Sound entries ⌝ }
+    requires { ⌜ (from ≤ end) × (end ≤ length (now code)) × (length (now code) ≤ 4096) × (l ≤ 63) × (nest ≤ 64) × Sound (now code) entries ⌝ }
     ensures { λ r. ⌜ Ends (now (code .entry)) from end (entriesOf (now (code .entry)) entries) l nest inside r ⌝ }
 {
     let mut at = from;
@@ -114,7 +114,7 @@ fn may_open(l: u32, nest: u32) -> bool
 
 // The terms after a CELL, PUSHVAR or PUSHIMM.
 fn plain(code: &[u32], at: usize, entries: Entries, l: u32, inside: bool, terms: usize) -> Terms
-    requires { ⌜ (at + 1 + fixedAfter (getD (now code) at 0) ≤ length (now code)) × (terms ≤ 4096) × Sound entries ⌝ }
+    requires { ⌜ (at + 1 + fixedAfter (getD (now code) at 0) ≤ length (now code)) × (terms ≤ 4096) × Sound (now code) entries ⌝ }
     ensures { λ r. ⌜ r ≡ termsAt (now (code .entry)) at (entriesOf (now (code .entry)) entries) inside l terms ⌝ }
 {
     let op = code[at];
@@ -157,7 +157,7 @@ fn cell(name: u32, count: u32, terms: usize) -> Terms
 
 // A PUSHI whose operands begin at a place.
 fn push(code: &[u32], from: usize, end: usize, entries: Entries, l: u32, nest: u32) -> Place
-    requires { ⌜ (from + 3 ≤ end) × (end ≤ length (now code)) × (length (now code) ≤ 4096) × (l ≤ 63) × (nest ≤ 64) × Sound entries ⌝ }
+    requires { ⌜ (from + 3 ≤ end) × (end ≤ length (now code)) × (length (now code) ≤ 4096) × (l ≤ 63) × (nest ≤ 64) × Sound (now code) entries ⌝ }
     ensures { λ r. ⌜ r ≡ pushObeys (now (code .entry)) from end (entriesOf (now (code .entry)) entries) l nest ⌝ }
 {
     let Found::Entry(b, guard) = find(entries, code[from]) else {
@@ -186,7 +186,7 @@ fn bodies(
     count: u32,
     set: u64,
 ) -> Place
-    requires { ⌜ (from ≤ end) × (end ≤ length (now code)) × (length (now code) ≤ 4096) × (l ≤ 63) × (nest ≤ 64) × (b ≤ 63) × Sound entries ⌝ }
+    requires { ⌜ (from ≤ end) × (end ≤ length (now code)) × (length (now code) ≤ 4096) × (l ≤ 63) × (nest ≤ 64) × (b ≤ 63) × Sound (now code) entries ⌝ }
     ensures { λ r. ⌜ r ≡ bodiesObey (now (code .entry)) from end count (entriesOf (now (code .entry)) entries) l nest b set ⌝ }
 {
     let mut at = from;

@@ -104,7 +104,7 @@ fn put(part: &mut [u8], depth: u8)
 
 // The build part.
 fn builds(code: &[u32], at: usize, terms: usize, entries: Entries) -> Checked
-    requires { ⌜ (at < length (now code)) × (length (now code) ≤ 4096) × (7 < getD (now code) at 0) × Sound entries ⌝ }
+    requires { ⌜ (at < length (now code)) × (length (now code) ≤ 4096) × (7 < getD (now code) at 0) × Sound (now code) entries ⌝ }
     ensures { λ r. ⌜ BuildsAt (now (code .entry)) at terms (entriesOf (now (code .entry)) entries) r ⌝ }
 {
     if terms != 0 {

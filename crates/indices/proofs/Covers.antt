@@ -1,8 +1,8 @@
 -- Sets as numbers: which indices are in one after another is inserted, and that a guard's list and keys together cover all below b.
-use mathlib.Core.Path.{_≡_, refl, sym, ap, _∙_}
+use mathlib.Core.Path.{_≡_, refl, sym, ap, _∙_, fun-ext}
 use Prim.Native.Nat.{ℕ, zero, suc, _+_, _-_, _*_, _/_, _%_, _^_, _≤_, _<_, max}
 use native.Mathlib.Omega.{arith}
-use mathlib.Core.Bool.{Bool, true, false, _&&_, _||_, cond, or-assoc, or-false, and-false}
+use mathlib.Core.Bool.{Bool, true, false, _&&_, _||_, or-assoc, or-false, and-false}
 use mathlib.Core.List.{List, [], _∷_}
 use lib.Dec.{eqb, ltb}
 use lib.Bits.{bitOr, or-step, or-shr, and-mask, mask-lt}
@@ -81,17 +81,14 @@ or-bit m n i = rw (or-shr m n i) (go (m / 2 ^ i) (n / 2 ^ i))
         let e : bitOr x y % 2 ≡ max (x % 2) (y % 2) = omega arith in
         rw e (bits (x % 2) (y % 2) (omega arith) (omega arith))
 
-insert-bit : (m k i : ℕ) → i < 64 → has (inserted m k) i ≡ has m i || eqb k i
+insert-bit : (m k i : ℕ) → has (inserted m k) i ≡ has m i || eqb k i
 unfolding inserted
-insert-bit m k i h =
-    case (λ b. has (cond b (bitOr m (2 ^ k)) m) i ≡ has m i || eqb k i) (ltb k 64)
-    (λ y. or-bit m (2 ^ k) i ∙ ap (λ b. has m i || b) (one-bit k i))
-    (λ y. let l = ltb-false k 64 (off _ y) in rw (ne-eqb k i (λ e. omega arith), or-false (has m i)))
+insert-bit m k i = or-bit m (2 ^ k) i ∙ ap (λ b. has m i || b) (one-bit k i)
 
-gather-bit : (ks : List ℕ) (m i : ℕ) → i < 64 → has (gathered m ks) i ≡ has m i || member ks i
+gather-bit : (ks : List ℕ) (m i : ℕ) → has (gathered m ks) i ≡ has m i || member ks i
 unfolding gathered
-gather-bit [] m i h = sym (or-false (has m i))
-gather-bit (k ∷ ks) m i h = gather-bit ks (inserted m k) i h ∙ rw (insert-bit m k i h, or-assoc (has m i) (eqb k i) (member ks i))
+gather-bit [] m i = sym (or-false (has m i))
+gather-bit (k ∷ ks) m i = gather-bit ks (inserted m k) i ∙ rw (insert-bit m k i, or-assoc (has m i) (eqb k i) (member ks i))
 
 -- all below b are in a set: bit after bit
 full-every : (m b : ℕ) → full m b ≡ every (has m) (upTo b)
@@ -119,18 +116,8 @@ full-every m b = rw (and-mask m b) (go b)
         ∙ rw (go b, every-append (has m) (upTo b) (b ∷ []), and-true (has m b)))
 
 -- The guard's list and the keys cover all below b.
-pub covers-full : (b : ℕ) (g ks : List ℕ) → b ≤ 63 → covers b g ks ≡ full (gathered (gathered 0 g) ks) b
-covers-full b g ks h = sym (full-every (gathered (gathered 0 g) ks) b ∙ go b h)
+pub covers-full : (b : ℕ) (g ks : List ℕ) → covers b g ks ≡ full (gathered (gathered 0 g) ks) b
+covers-full b g ks = sym (full-every (gathered (gathered 0 g) ks) b ∙ ap (λ (p : ℕ → Bool). every p (upTo b)) (fun-ext one))
   where
-    one : (i : ℕ) → i < 64 → has (gathered (gathered 0 g) ks) i ≡ member g i || member ks i
-    one i l = gather-bit ks (gathered 0 g) i l ∙ rw (gather-bit g 0 i l, none-there i)
-
-    go : (b : ℕ) → b ≤ 63 → every (has (gathered (gathered 0 g) ks)) (upTo b) ≡ every (λ i. member g i || member ks i) (upTo b)
-    go zero h = refl
-    go (suc b) h =
-        rw (
-          every-append (has (gathered (gathered 0 g) ks)) (upTo b) (b ∷ []),
-          every-append (λ i. member g i || member ks i) (upTo b) (b ∷ []),
-          go b (omega arith),
-          one b (omega arith),
-        )
+    one : (i : ℕ) → has (gathered (gathered 0 g) ks) i ≡ member g i || member ks i
+    one i = gather-bit ks (gathered 0 g) i ∙ rw (gather-bit g 0 i, none-there i)

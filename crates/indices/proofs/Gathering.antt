@@ -2,31 +2,27 @@
 use mathlib.Core.Path.{_≡_, refl, _∙_}
 use Prim.Native.Nat.{ℕ, _+_, _-_, _*_, _%_, _^_, _≤_, _<_}
 use native.Mathlib.Omega.{arith}
-use mathlib.Core.Bool.{_&&_, and-false}
+use mathlib.Core.Bool.{true, _&&_, and-false}
 use mathlib.Core.List.{List, [], _∷_}
 use lib.Dec.{eqb, ltb}
 use lib.ListN.{length, getD, drop, length-drop, drop-of-length-le}
 use lib.Bits.{bitAnd, bitOr}
 use lib.Pow.{pow-pos, shl-exact}
-use borrow.Author.Tests.{lt-ltb, le-ltb}
+use borrow.Author.Tests.{lt-ltb, le-ltb, ltb-true}
 use Rattle.documents.specs.Instructions.{pairsIn}
 use Rattle.documents.specs.Machine.{firsts}
 use Rattle.documents.specs.Passing.{allBelow}
-use Rattle.documents.proofs.Lists.{at-cons}
+use Rattle.documents.proofs.Lists.{on, T-of, of-and, at-cons}
 use Rattle.indices.specs.declared.Indices.the-variants as indices
 use Rattle.indices.specs.Sets.{inserted, gathered, full, firstsIn}
-
-pub insert-high : (m k : ℕ) → 63 < k → m ≡ inserted m k
-unfolding inserted
-insert-high m k h = rw (le-ltb k 64 (omega arith))
 
 -- one bit, shifted within 64
 one-shifted : (k : ℕ) → k ≤ 63 → 1 * 2 ^ k % 2 ^ 64 ≡ 2 ^ k
 one-shifted k h = shl-exact 1 k 64 (omega arith) (omega arith) ∙ omega arith
 
-pub insert-low : (m k : ℕ) → k ≤ 63 → bitOr m (1 * 2 ^ k % 2 ^ 64) ≡ inserted m k
+pub insert-is : (m k : ℕ) → k ≤ 63 → bitOr m (1 * 2 ^ k % 2 ^ 64) ≡ inserted m k
 unfolding inserted
-insert-low m k h = rw (one-shifted k h, lt-ltb k 64 (omega arith))
+insert-is m k h = rw (one-shifted k h)
 
 pub shifted-positive : (k : ℕ) → k ≤ 63 → 1 ≤ 1 * 2 ^ k % 2 ^ 64
 shifted-positive k h = rw (one-shifted k h) (pow-pos k)
@@ -34,6 +30,14 @@ shifted-positive k h = rw (one-shifted k h) (pow-pos k)
 pub full-is : (m b : ℕ) → b ≤ 63 → eqb (bitAnd m (1 * 2 ^ b % 2 ^ 64 - 1)) (1 * 2 ^ b % 2 ^ 64 - 1) ≡ full m b
 unfolding full
 full-is m b h = rw (one-shifted b h)
+
+module _ (t : List ℕ) (i : ℕ) where
+  -- each below 64, and so those behind it
+  pub small-next : i < length t → allBelow 64 (drop i t) ≡ true → (getD t i 0 ≤ 63) × (allBelow 64 (drop (i + 1) t) ≡ true)
+  small-next h e =
+      let q = of-and (ltb (getD t i 0) 64) (allBelow 64 (drop (i + 1) t)) (T-of _ (rw (at-cons t i h) at e)) in
+      let k = ltb-true (getD t i 0) 64 (on _ (q .0)) in
+      (omega arith, on _ (q .1))
 
 module _ (t : List ℕ) (i m : ℕ) where
   pub gathered-next : (n : ℕ) → i < length t → n ≡ inserted m (getD t i 0) → gathered m (drop i t) ≡ gathered n (drop (i + 1) t)

@@ -2,16 +2,16 @@
 use Prim.Native.Nat.{ℕ, _-_, _^_}
 use mathlib.Core.Bool.{Bool, _&&_, cond}
 use mathlib.Core.List.{List, [], _∷_}
-use lib.Dec.{eqb, ltb}
+use lib.Dec.{eqb}
 use lib.Bits.{bitAnd, bitOr}
 use Rattle.documents.specs.Machine.{firsts}
 use Rattle.documents.specs.Passing.{allBelow, seconds}
 use Rattle.indices.specs.declared.Indices.{Indices}
 use Rattle.indices.specs.declared.Indices.the-variants as indices
 
--- with one index more, if it is below 64
+-- with one index more
 unfoldable pub inserted : ℕ → ℕ → ℕ
-inserted m k = cond (ltb k 64) (bitOr m (2 ^ k)) m
+inserted m k = bitOr m (2 ^ k)
 
 -- with all of a list
 unfoldable pub gathered : ℕ → List ℕ → ℕ

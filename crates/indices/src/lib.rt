@@ -1,7 +1,9 @@
 // Sets of indices below 64, a bit for each.
 ghost use mathlib.Core.Path.{_≡_};
+ghost use mathlib.Core.Bool.{true};
 ghost use Prim.Native.Nat.{_≤_};
 ghost use Rattle.documents.specs.Instructions.{pairsIn};
+ghost use Rattle.documents.specs.Passing.{allBelow};
 ghost use Rattle.indices.specs.Sets.{inserted, gathered, full, firstsIn};
 
 // What was gathered, or an index that is too large.
@@ -11,16 +13,15 @@ pub enum Indices {
 }
 
 pub fn insert(set: u64, index: u32) -> u64
+    requires { ⌜ index ≤ 63 ⌝ }
     ensures { λ r. ⌜ r ≡ inserted set index ⌝ }
 {
-    if 63 < index {
-        return set;
-    }
     set | 1 << index
 }
 
 // With all of a list.
 pub fn gather(list: &[u32]) -> u64
+    requires { ⌜ allBelow 64 (now list) ≡ true ⌝ }
     ensures { λ r. ⌜ r ≡ gathered 0 (now (list .entry)) ⌝ }
 {
     let mut set: u64 = 0;
@@ -43,6 +44,7 @@ pub fn all_below(set: u64, b: u32) -> bool
 
 // The first indices of pairs, with those of a set, if they are below b and the second ones below d.
 pub fn firsts(pairs: &[u32], set: u64, b: u32, d: u32) -> Indices
+    requires { ⌜ b ≤ 63 ⌝ }
     ensures { λ r. ⌜ r ≡ firstsIn (pairsIn (now (pairs .entry))) set b d ⌝ }
 {
     let mut firsts = set;

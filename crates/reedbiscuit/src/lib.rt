@@ -95,8 +95,8 @@ fn compile_number(answer: Compiled) -> u32
 pub extern "C" fn reed_check(code: &[u32]) -> u32
     ensures { λ r. ⌜ r ≡ checkCall (now (code .entry)) ⌝ }
 {
-    let Checked::Refused(why) = checker::check(code) else {
+    let Checked::Refused(refusal) = checker::check(code) else {
         return DONE;
     };
-    documents::number(why)
+    documents::number(refusal)
 }

@@ -3,20 +3,20 @@ use mathlib.Core.Path.{_≡_, refl, sym, ap, _∙_}
 use Prim.Native.Nat.{ℕ, zero, suc, _+_, _-_, _≤_, _<_}
 use native.Mathlib.Numerals.{add-one}
 use native.Mathlib.Omega.{arith}
-use mathlib.Core.Bool.{false, cond}
+use mathlib.Core.Bool.{true, false, cond}
 use mathlib.Core.Option.{none, some}
 use mathlib.Core.List.{List, [], _∷_}
 use lib.Dec.{eqb, ltb}
 use lib.ListN.{length, getD, getElem?, take, drop, set, length-drop, drop-of-length-le}
 use lib.Seq.{getD-set-same, getD-set-other, take-all}
 use borrow.Author.Tests.{eq-eqb, ne-eqb, lt-ltb, le-ltb, ltb-true, ltb-false}
-use Rattle.documents.specs.Passing.{slot}
+use Rattle.documents.specs.Passing.{slot, allBelow}
 use Rattle.documents.proofs.Lists.{never, case, on, off}
 use Rattle.indices.specs.Sets.{gathered}
 use Rattle.turns.specs.declared.entries.Entries.{Entries}
 use Rattle.turns.specs.declared.entries.Found.{Found}
 use Rattle.turns.specs.declared.entries.Found.the-variants as found
-use Rattle.turns.specs.Held.{listAt, slots, entriesOf, Sound, foundIn, sameDepth}
+use Rattle.turns.specs.Held.{listAt, slots, entriesOf, Small, Sound, foundIn, sameDepth}
 
 -- ---- the list of a guard
 
@@ -92,8 +92,11 @@ module _ (e : Entries) (x : ℕ) where
     pub found-slot : (t : List ℕ) → getElem? (entriesOf t e) x ≡ some (slot b (listAt t g))
     found-slot t = slot-at t (e .count) (e .depths) (e .guards) x (there .0) ∙ rw (sym (there .1), sym (there .2))
 
-    pub found-low : Sound e → b ≤ 63
+    pub found-low : {t : List ℕ} → Sound t e → b ≤ 63
     found-low s = rw (there .1) (s .depths .low (e .count - 1 - x))
+
+    pub found-small : {t : List ℕ} → Sound t e → Small t g
+    found-small {t} s = rw (there .2) (s .guards .small (e .count - 1 - x))
 
 pub same-missing : (f : Found) (d : ℕ) → f ≡ found.Missing → false ≡ sameDepth f d
 unfolding sameDepth
@@ -122,14 +125,23 @@ module _ (t : List ℕ) (g : ℕ) where
       take-nil (suc n) = refl
 
   -- the rest of the code, where it is shorter than the list, or the list in it
-  module _ (e : g ≡ 0 → ⊥) (r : ℕ) where
+  module _ (e : g ≡ 0 → ⊥) where
     rest : take (length t - (g + 1)) (drop (g + 1) t) ≡ drop (g + 1) t
     rest = take-all (length t - (g + 1)) (drop (g + 1) t) (rw (length-drop (g + 1) t) (omega arith))
 
-    pub listed-short : length (take (length t - (g + 1)) (drop (g + 1) t)) < getD t g 0 → r ≡ gathered 0 (take (length t - (g + 1)) (drop (g + 1) t)) → r ≡ gathered 0 (listAt t g)
-    listed-short h q =
+    pub listed-short : (r : ℕ) → length (take (length t - (g + 1)) (drop (g + 1) t)) < getD t g 0 → r ≡ gathered 0 (take (length t - (g + 1)) (drop (g + 1) t)) → r ≡ gathered 0 (listAt t g)
+    listed-short r h q =
         let k = rw rest at h in
         rw rest at q ∙ rw (list-at t g e, take-all (getD t g 0) (drop (g + 1) t) (omega arith))
 
-    pub listed-whole : r ≡ gathered 0 (take (getD t g 0) (take (length t - (g + 1)) (drop (g + 1) t))) → r ≡ gathered 0 (listAt t g)
-    listed-whole q = rw rest at q ∙ rw (list-at t g e)
+    -- the part that is gathered is the list
+    pub part-short : length (take (length t - (g + 1)) (drop (g + 1) t)) < getD t g 0 → Small t g → allBelow 64 (take (length t - (g + 1)) (drop (g + 1) t)) ≡ true
+    part-short h s =
+        let k = rw rest at h in
+        rw (rest, sym (take-all (getD t g 0) (drop (g + 1) t) (omega arith)), sym (list-at t g e)) s
+
+    pub part-whole : Small t g → allBelow 64 (take (getD t g 0) (take (length t - (g + 1)) (drop (g + 1) t))) ≡ true
+    part-whole s = rw (rest, sym (list-at t g e)) s
+
+    pub listed-whole : (r : ℕ) → r ≡ gathered 0 (take (getD t g 0) (take (length t - (g + 1)) (drop (g + 1) t))) → r ≡ gathered 0 (listAt t g)
+    listed-whole r q = rw rest at q ∙ rw (list-at t g e)

@@ -304,16 +304,16 @@ module _ (t : List ℕ) (a d : ℕ) (e : Entries) where
           sym (eqi-found ∙ rw (le-leb (a + 4 + 2 * getD t (a + 3) 0) (length t) h, eq-eqb (getD t (a + 2) 0 + b) (d + 64) q, listed-pairs h, lt-leb (getD t (a + 3) 0) 8 k)))
           (λ y. eqi-past (leb-false (a + 4 + 2 * getD t (a + 3) 0) (length t) (off _ y)))
 
-      pub eqi-sets : (s : Indices) (m : ℕ) → getD t (a + 3) 0 ≤ 8 → a + 4 + 2 * getD t (a + 3) 0 ≤ length t → b ≤ 63 → m ≡ gathered 0 (listAt t g)
+      pub eqi-sets : (s : Indices) (m : ℕ) → getD t (a + 3) 0 ≤ 8 → a + 4 + 2 * getD t (a + 3) 0 ≤ length t → m ≡ gathered 0 (listAt t g)
           → s ≡ firstsIn (pairsIn (take (a + 4 + 2 * getD t (a + 3) 0 - (a + 4)) (drop (a + 4) t))) m b d
           → placeIf (filled s b) (a + 4 + 2 * getD t (a + 3) 0) ≡ eqiAt t a d (entriesOf t e)
       unfolding firstsIn
-      eqi-sets s m k h l u v =
+      eqi-sets s m k h u v =
           let ps = pairsIn (take (2 * getD t (a + 3) 0) (drop (a + 4) t)) in
           let z : a + 4 + 2 * getD t (a + 3) 0 - (a + 4) ≡ 2 * getD t (a + 3) 0 = omega arith in
           let v₁ : s ≡ firstsIn ps m b d = rw z at v in
           let w = filled-is (allBelow b (firsts ps)) (allBelow d (seconds ps)) (covers b (listAt t g) (firsts ps)) (gathered m (firsts ps)) b
-          (covers-full b (listAt t g) (firsts ps) l ∙ ap (λ (n : ℕ). full (gathered n (firsts ps)) b) (sym u)) in
+          (covers-full b (listAt t g) (firsts ps) ∙ ap (λ (n : ℕ). full (gathered n (firsts ps)) b) (sym u)) in
           rw (v₁, w) (sym (eqi-found ∙ rw (
             le-leb (a + 4 + 2 * getD t (a + 3) 0) (length t) h,
             eq-eqb (getD t (a + 2) 0 + b) (d + 64) q,
@@ -321,16 +321,16 @@ module _ (t : List ℕ) (a d : ℕ) (e : Entries) where
             le-leb (getD t (a + 3) 0) 8 k,
           )))
 
-      module _ (s : Indices) (m : ℕ) (k : getD t (a + 3) 0 ≤ 8) (h : a + 4 + 2 * getD t (a + 3) 0 ≤ length t) (l : b ≤ 63) (u : m ≡ gathered 0 (listAt t g))
+      module _ (s : Indices) (m : ℕ) (k : getD t (a + 3) 0 ≤ 8) (h : a + 4 + 2 * getD t (a + 3) 0 ≤ length t) (u : m ≡ gathered 0 (listAt t g))
           (v : s ≡ firstsIn (pairsIn (take (a + 4 + 2 * getD t (a + 3) 0 - (a + 4)) (drop (a + 4) t))) m b d) where
         pub eqi-high : s ≡ indices.Refused → place.Refused DoesNotPass ≡ eqiAt t a d (entriesOf t e)
-        eqi-high w = ap (λ (i : Indices). placeIf (filled i b) (a + 4 + 2 * getD t (a + 3) 0)) (sym w) ∙ eqi-sets s m k h l u v
+        eqi-high w = ap (λ (i : Indices). placeIf (filled i b) (a + 4 + 2 * getD t (a + 3) 0)) (sym w) ∙ eqi-sets s m k h u v
 
         pub eqi-bare : (n : ℕ) → s ≡ indices.Of n → full n b ≡ false → place.Refused DoesNotPass ≡ eqiAt t a d (entriesOf t e)
-        eqi-bare n w x = ap (λ (p : Bool). placeIf p (a + 4 + 2 * getD t (a + 3) 0)) (sym x) ∙ ap (λ (i : Indices). placeIf (filled i b) (a + 4 + 2 * getD t (a + 3) 0)) (sym w) ∙ eqi-sets s m k h l u v
+        eqi-bare n w x = ap (λ (p : Bool). placeIf p (a + 4 + 2 * getD t (a + 3) 0)) (sym x) ∙ ap (λ (i : Indices). placeIf (filled i b) (a + 4 + 2 * getD t (a + 3) 0)) (sym w) ∙ eqi-sets s m k h u v
 
         pub eqi-there : (n : ℕ) → s ≡ indices.Of n → full n b ≡ true → place.At (a + 4 + 2 * getD t (a + 3) 0) ≡ eqiAt t a d (entriesOf t e)
-        eqi-there n w x = ap (λ (p : Bool). placeIf p (a + 4 + 2 * getD t (a + 3) 0)) (sym x) ∙ ap (λ (i : Indices). placeIf (filled i b) (a + 4 + 2 * getD t (a + 3) 0)) (sym w) ∙ eqi-sets s m k h l u v
+        eqi-there n w x = ap (λ (p : Bool). placeIf p (a + 4 + 2 * getD t (a + 3) 0)) (sym x) ∙ ap (λ (i : Indices). placeIf (filled i b) (a + 4 + 2 * getD t (a + 3) 0)) (sym w) ∙ eqi-sets s m k h u v
 
 -- ---- the fixed words, with the opcode known
 
@@ -339,7 +339,7 @@ fixed-of t a k f o = f ∙ rw o
 
 -- ---- the limits hold after a turn
 
-needed-there : {A : Type 0} (q : Bool) (o : Option A) → isThere (need q o) ≡ true → (q ≡ true) × (isThere o ≡ true)
+pub needed-there : {A : Type 0} (q : Bool) (o : Option A) → isThere (need q o) ≡ true → (q ≡ true) × (isThere o ≡ true)
 needed-there true o h = (refl, h)
 needed-there false o h = never (cc)
 

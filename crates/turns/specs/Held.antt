@@ -1,10 +1,11 @@
 -- What the checker's state stands for (document 01, 'When code passes').
+use mathlib.Core.Path.{_≡_}
 use Prim.Native.Nat.{ℕ, zero, suc, _+_, _-_, _≤_}
-use mathlib.Core.Bool.{Bool, false, cond}
+use mathlib.Core.Bool.{Bool, true, false, cond}
 use mathlib.Core.List.{List, [], _∷_}
 use lib.Dec.{eqb, ltb}
 use lib.ListN.{getD, take, drop}
-use Rattle.documents.specs.Passing.{openLimit, entryLimit, Slot, slot}
+use Rattle.documents.specs.Passing.{openLimit, entryLimit, Slot, slot, allBelow}
 use Rattle.turns.specs.declared.entries.Entries.{Entries}
 use Rattle.turns.specs.declared.entries.Found.{Found}
 use Rattle.turns.specs.declared.entries.Found.the-variants as found
@@ -30,10 +31,18 @@ entriesOf t e = slots t (e .count) (e .depths) (e .guards)
 pub record Low (ds : List ℕ) : Type 0 where
   pub low : (i : ℕ) → getD ds i 0 ≤ openLimit
 
--- the entries are at most sixteen, and none is deeper than the limit
-pub record Sound (e : Entries) : Type 0 where
+-- a guard's indices are below 64
+abbrev pub Small : List ℕ → ℕ → Type 0
+Small t g = allBelow 64 (listAt t g) ≡ true
+
+pub record AllSmall (t gs : List ℕ) : Type 0 where
+  pub small : (i : ℕ) → Small t (getD gs i 0)
+
+-- the entries are at most sixteen, and within the limits
+pub record Sound (t : List ℕ) (e : Entries) : Type 0 where
   pub few : e .count ≤ entryLimit
   pub depths : Low (e .depths)
+  pub guards : AllSmall t (e .guards)
 
 -- entry x, counted from the newest
 unfoldable pub foundIn : Entries → ℕ → Found

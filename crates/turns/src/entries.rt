@@ -4,7 +4,7 @@ use instructions::limit::MOST_ENTRIES;
 ghost use mathlib.Core.Path.{_≡_};
 ghost use Prim.Native.Nat.{_≤_};
 ghost use Rattle.indices.specs.Sets.{gathered};
-ghost use Rattle.turns.specs.Held.{listAt, foundIn, sameDepth};
+ghost use Rattle.turns.specs.Held.{listAt, Small, foundIn, sameDepth};
 
 // No CHECK stands directly before.
 pub const NO_GUARD: u16 = 0;
@@ -48,6 +48,7 @@ pub fn has_depth(entries: Entries, x: u32, d: u32) -> bool
 
 // The list whose count stands at a place.
 pub fn listed(code: &[u32], guard: u16) -> u64
+    requires { ⌜ Small (now code) guard ⌝ }
     ensures { λ r. ⌜ r ≡ gathered 0 (listAt (now (code .entry)) guard) ⌝ }
 {
     let place = guard as usize;

@@ -29,9 +29,9 @@ use tables::compare::D_SHIFT;
 use tables::node::MOST_ARGUMENTS;
 ghost use mathlib.Core.Path.{_≡_};
 ghost use mathlib.Core.Bool.{_&&_};
-ghost use Prim.Native.Nat.{_+_, _-_, _*_, _<_, _≤_};
+ghost use Prim.Native.Nat.{_+_, _<_, _≤_};
 ghost use lib.Dec.{leb};
-ghost use lib.ListN.{length, getD, take, drop};
+ghost use lib.ListN.{length, getD};
 ghost use Rattle.documents.specs.Instructions.{fixedAfter};
 ghost use Rattle.documents.specs.Passing.{allBelow};
 ghost use Rattle.turns.specs.Held.{entriesOf, Sound};
@@ -45,7 +45,7 @@ pub enum Turned {
 
 // The match instruction at a place, the top at depth d, `below` terms below it.
 pub fn turn(code: &[u32], at: usize, entries: Entries, d: u8, below: usize) -> Turned
-    requires { ⌜ (at < length (now code)) × (getD (now code) at 0 ≤ 7) × (below < 256) × (d ≤ 63) × Sound entries ⌝ }
+    requires { ⌜ (at < length (now code)) × (getD (now code) at 0 ≤ 7) × (below < 256) × (d ≤ 63) × Sound (now code) entries ⌝ }
     ensures { λ r. ⌜ r ≡ turnAt (now (code .entry)) at d below (entriesOf (now (code .entry)) entries) ⌝ }
 {
     let Place::At(next) = fetch(code, at, code.len()) else {
@@ -89,7 +89,7 @@ fn arguments(name: u32, count: u32, next: usize, d: u8, below: usize) -> Turned
 
 // CHECK to EQI leave the top.
 fn stays(code: &[u32], at: usize, next: usize, entries: Entries, d: u32) -> Place
-    requires { ⌜ (at < length (now code)) × (3 ≤ getD (now code) at 0) × (getD (now code) at 0 ≤ 7) × (next ≡ at + 1 + fixedAfter (getD (now code) at 0)) × (next ≤ length (now code)) × (d ≤ 63) × Sound entries ⌝ }
+    requires { ⌜ (at < length (now code)) × (3 ≤ getD (now code) at 0) × (getD (now code) at 0 ≤ 7) × (next ≡ at + 1 + fixedAfter (getD (now code) at 0)) × (next ≤ length (now code)) × (d ≤ 63) × Sound (now code) entries ⌝ }
     ensures { λ r. ⌜ StaysAt (now (code .entry)) at d (entriesOf (now (code .entry)) entries) r ⌝ }
 {
     let op = code[at];
@@ -149,7 +149,7 @@ fn each_below(list: &[u32], d: u32) -> bool
 }
 
 fn eqi(code: &[u32], at: usize, entries: Entries, d: u32) -> Place
-    requires { ⌜ (at + 4 ≤ length (now code)) × (d ≤ 63) × Sound entries ⌝ }
+    requires { ⌜ (at + 4 ≤ length (now code)) × (d ≤ 63) × Sound (now code) entries ⌝ }
     ensures { λ r. ⌜ r ≡ eqiAt (now (code .entry)) at d (entriesOf (now (code .entry)) entries) ⌝ }
 {
     let Found::Entry(b, guard) = find(entries, code[at + 1]) else {

@@ -1,4 +1,4 @@
--- `indices::all_below`: 1 shifted by at most 63 is that power of two, so the mask is all bits below b.
+-- `indices::all_below`: the mask is all bits below b.
 use Rattle.indices.proofs.Gathering.{shifted-positive, full-is}
 use borrow.Author.Needs.{needs}
 use Rattle.indices.proofs.all_below.Statement.{statement}

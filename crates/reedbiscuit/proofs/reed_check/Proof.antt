@@ -7,4 +7,4 @@ use Rattle.reedbiscuit.proofs.reed_check.Tie as tie
 
 pub reed-check-spec : {M : Type 1} → statement M
 reed-check-spec =
-    tie.close (tie.spec (λ c κs. search needs) (λ c. search needs) (λ c. search needs) (λ c. number-passes _ (c .before .before .check .ensures) (c .enum-told .given .1)) (λ c κs. search needs) (λ c. c .number .ensures ∙ number-refused _ _ (c .before .before .before .before .check .ensures) (c .before .before .why .given .1)))
+    tie.close (tie.spec (λ c κs. search needs) (λ c. search needs) (λ c. search needs) (λ c. number-passes _ (c .before .before .check .ensures) (c .enum-told .given .1)) (λ c κs. search needs) (λ c. c .number .ensures ∙ number-refused _ _ (c .before .before .before .before .check .ensures) (c .before .before .refusal .given .1)))

@@ -1,14 +1,14 @@
 -- `checker::build::build`, `push` and `bodies` call each other; the words that are left, end - from, fall at every call. In `build` a block's answer goes
 -- on where the block closes, whatever blocks are around; in `bodies` each body stands alone, and its key is one more of the set.
 use mathlib.Core.Path.{sym, _∙_}
-use Prim.Native.Nat.{_+_, _-_, ℕ, _<_}
+use Prim.Native.Nat.{_-_, _+_, ℕ, _<_}
 use native.Mathlib.Omega.{arith}
 use borrow.Author.Tests.{not-true, not-false}
 use Rattle.instructions.proofs.Reading.{fetched-is, fetched-op}
 use Rattle.turns.specs.Held.{entriesOf}
-use Rattle.turns.proofs.Entered.{found-low}
-use Rattle.checker.proofs.Pushing.{push-range, push-missing, push-other, push-many, push-bodies}
+use Rattle.turns.proofs.Entered.{found-low, found-small}
 use Rattle.checker.proofs.Ending.{Going, ends-done, ends-unfetched, ends-shut, ends-closed, open-low, ends-block, going-block, ends-pushed, going-push, ends-plain, going-plain, Bodied, obey-bare, obey-all, obey-few, obey-long, obey-key, obey-deep, obey-bad, bodied-next, key-not-shut, key-not-done}
+use Rattle.checker.proofs.Pushing.{push-missing, push-other, push-many, push-bodies, push-range}
 use Rattle.checker.proofs.build.+bodies+build+push.Lts-bodies as bodies-lts
 use Rattle.checker.proofs.build.+bodies+build+push.Lts-build as build-lts
 use borrow.Author.Needs.{needs}
@@ -193,7 +193,7 @@ pub +bodies+build+push-spec : {M : Type 1} → statement M
     (λ c. search needs)
     (λ c. search needs)
     (λ c. push-many _ _ _ _ _ _ _ _ (sym (c .before .before .before .before .before .before .before .find .ensures) ∙ c .before .before .before .before .before .b .given .1) (c .if2 .taken))
-    (λ c κs. search needs)
+    (λ c κs. found-small _ _ _ _ (sym (c .before .before .before .before .before .before .before .find .ensures) ∙ c .before .before .before .before .before .b .given .1) (c .before .before .before .before .before .before .before .before .before .before .pre .1 .5))
     (λ c. search needs)
     (λ c κs. let p = c .before .before .before .before .before .before .before .before .before .before .before .pre .1 in let m = c .before .before .before .before .before .before .before .before .before .before .before .pre .0 in (omega arith, (omega arith, p .1, p .2, p .3, p .4, found-low _ _ _ _ (sym (c .before .before .before .before .before .before .before .before .find .ensures) ∙ c .before .before .before .before .before .before .b .given .1) (p .5), p .5)))
-    (λ c. let p = found-low _ _ _ _ (sym (c .before .before .before .before .before .before .before .before .before .find .ensures) ∙ c .before .before .before .before .before .before .before .b .given .1) (c .before .before .before .before .before .before .before .before .before .before .before .before .pre .1 .5) in c .bodies .ensures ∙ push-bodies _ _ _ _ _ _ _ _ (sym (c .before .before .before .before .before .before .before .before .before .find .ensures) ∙ c .before .before .before .before .before .before .before .b .given .1) _ (omega arith) (omega arith) p (c .before .listed .ensures))
+    (λ c. let p = found-low _ _ _ _ (sym (c .before .before .before .before .before .before .before .before .before .find .ensures) ∙ c .before .before .before .before .before .before .before .b .given .1) (c .before .before .before .before .before .before .before .before .before .before .before .before .pre .1 .5) in c .bodies .ensures ∙ push-bodies _ _ _ _ _ _ _ _ (sym (c .before .before .before .before .before .before .before .before .before .find .ensures) ∙ c .before .before .before .before .before .before .before .b .given .1) _ (omega arith) (omega arith) (c .before .listed .ensures))

@@ -2,7 +2,7 @@
 use mathlib.Core.Path.{sym}
 use native.Mathlib.Omega.{arith}
 use lib.Seq.{length-take-le}
-use Rattle.turns.proofs.Entered.{listed-none, listed-past, listed-short, listed-whole}
+use Rattle.turns.proofs.Entered.{listed-none, listed-past, listed-short, listed-whole, part-short, part-whole}
 use borrow.Author.Needs.{needs}
 use Rattle.turns.proofs.entries.listed.Statement.{statement}
 use Rattle.turns.proofs.entries.listed.Tie as tie
@@ -21,8 +21,8 @@ listed-spec =
     (λ c. search needs)
     (λ c. search needs)
     (λ c. search needs)
-    (λ c κs. search needs)
+    (λ c κs. part-short _ _ (c .before .before .before .before .if1 .left) (c .if3 .taken) (c .before .before .before .before .before .before .pre))
     (λ c. listed-short _ _ (c .before .before .before .before .before .if1 .left) _ (c .before .if3 .taken) (c .gather .ensures))
     (λ c. sym (length-take-le _ _ (omega arith)))
-    (λ c κs. search needs)
+    (λ c κs. part-whole _ _ (c .before .before .before .before .before .if1 .left) (c .before .before .before .before .before .before .before .pre))
     (λ c. listed-whole _ _ (c .before .before .before .before .before .before .if1 .left) _ (c .gather2 .ensures)))
