@@ -2,13 +2,15 @@
 use mathlib.Core.Path.{_≡_, refl, sym, ap, _∙_}
 use Prim.Native.Nat.{ℕ, zero, suc, _+_, _-_, _≤_, _<_}
 use native.Mathlib.Omega.{arith}
+use mathlib.Core.Bool.{true}
 use mathlib.Core.List.{List, [], _∷_, _++_}
 use lib.ListN.{length, getD, take, drop, set, replicate, length-drop, length-replicate, length-append, getD-replicate, replicate-append-replicate}
 use lib.Seq.{take-all, take-at, take-suc-set, length-take-le, getD-take, getD-drop, getD-append-add}
-use borrow.Author.Tests.{eq-eqb, ne-eqb}
-use Rattle.documents.specs.Passing.{times}
+use borrow.Author.Tests.{ne-eqb}
+use Rattle.documents.specs.Passing.{allBelow, times}
+use Rattle.indices.specs.Sets.{gathered}
 use Rattle.turns.specs.Held.{stacked, Low}
-use Rattle.checker.specs.Matched.{guardPut}
+use Rattle.checker.specs.Matched.{listBehind, Listing}
 
 -- ---- one depth after another
 
@@ -22,13 +24,19 @@ put-all l i d n e h k = sym (take-all i l h) ∙ e ∙ rw k
 
 -- ---- the guard
 
-pub guard-check : (op a : ℕ) → op ≡ 3 → a + 1 ≡ guardPut op a
-unfolding guardPut
-guard-check op a e = rw (eq-eqb op 3 e)
+module _ (t : List ℕ) (a : ℕ) where
+  pub guard-none : (getD t a 0 ≡ 3 → ⊥) → 0 ≡ gathered 0 (listBehind t a)
+  unfolding listBehind gathered
+  guard-none e = rw (ne-eqb (getD t a 0) 3 e)
 
-pub guard-none : (op a : ℕ) → (op ≡ 3 → ⊥) → 0 ≡ guardPut op a
-unfolding guardPut
-guard-none op a e = rw (ne-eqb op 3 e)
+  pub guard-list : (r : ℕ) → getD t a 0 ≡ 3 → r ≡ gathered 0 (take (a + 2 + getD t (a + 1) 0 - (a + 2)) (drop (a + 2) t)) → r ≡ gathered 0 (listBehind t a)
+  unfolding listBehind
+  guard-list r e q =
+      let z : a + 2 + getD t (a + 1) 0 - (a + 2) ≡ getD t (a + 1) 0 = omega arith in
+      rw z at q ∙ rw e
+
+  pub listing-small : Listing t a → getD t a 0 ≡ 3 → allBelow 64 (take (a + 2 + getD t (a + 1) 0 - (a + 2)) (drop (a + 2) t)) ≡ true
+  listing-small h e = let z : a + 2 + getD t (a + 1) 0 - (a + 2) ≡ getD t (a + 1) 0 = omega arith in rw z (h e .1)
 
 -- ---- the stack
 

@@ -2,16 +2,18 @@
 use mathlib.Core.Path.{_≡_, refl, sym, ap, _∙_}
 use Prim.Native.Nat.{ℕ, suc, _+_, _-_, _≤_, _<_}
 use native.Mathlib.Omega.{arith}
-use mathlib.Core.Bool.{Bool, true, false, _&&_, and-false}
+use mathlib.Core.Bool.{Bool, true, false, not, _&&_, and-false}
+use mathlib.Core.Option.{none, some}
 use mathlib.Core.List.{List, [], _∷_}
 use mathlib.Core.Logic.{_⊎_, inl, inr}
 use lib.Dec.{eqb, leb, ltb}
-use lib.ListN.{length, getD}
-use borrow.Author.Tests.{lt-ltb, le-ltb, ltb-true, leb-true, leb-false}
+use lib.ListN.{length, getD, getElem?}
+use borrow.Author.Tests.{eqb-true, eqb-false, ne-eqb, lt-ltb, le-ltb, ltb-true, ltb-false, leb-true, leb-false}
 use denote.Enum.Declared.{tagOf}
 use Rattle.documents.specs.declared.Refusal.{Refusal}
 use Rattle.documents.specs.declared.Refusal.the-variants.{DoesNotPass}
-use Rattle.documents.specs.Passing.{Slot}
+use Rattle.documents.specs.Lists.{need}
+use Rattle.documents.specs.Passing.{Slot, slot}
 use Rattle.documents.proofs.Lists.{never, case, on, off, T-of, of-and}
 use Rattle.instructions.specs.declared.Place.{Place}
 use Rattle.instructions.specs.declared.Place.the-variants as place
@@ -22,10 +24,10 @@ use Rattle.checker.specs.declared.build.Ended.{Ended}
 use Rattle.checker.specs.declared.build.Terms.{Terms}
 use Rattle.checker.specs.declared.build.Ended.the-variants as ended
 use Rattle.checker.specs.declared.build.Terms.the-variants as terms
-use Rattle.checker.specs.Built.{termsAt, bodiesObey, pushObeys, makesOne, onward, endedIf, Ends}
+use Rattle.checker.specs.Built.{termsAt, bodiesObey, Operands, entryObeys, makesOne, onward, endedIf, Ends}
 use Rattle.checker.proofs.build.Ended.{the-type}
-use Rattle.checker.proofs.Making.{termsOn, terms-grow, makes-unfetched, makes-open, makes-closed, makes-shut, makes-ended, makes-plain}
-use Rattle.checker.proofs.Pushing.{allow, placeOn, makes-push, push-range, obey-done, obey-short, obey-step}
+use Rattle.checker.proofs.Making.{goesOn, termsOn, terms-grow, makes-unfetched, makes-open, makes-closed, makes-shut, makes-ended, makes-plain, makes-pushimm}
+use Rattle.checker.proofs.Pushing.{allow, placeOn, makes-push, makes-whole, push-absent, push-range, obey-done, obey-short, obey-step}
 
 -- What was made from place a₀ to place a: h terms of the innermost block, whatever blocks are around.
 pub record Going (t : List ℕ) (a₀ e : ℕ) (es : List Slot) (l nest : ℕ) (inside : Bool) (a h : ℕ) : Type 0 where
@@ -123,27 +125,89 @@ module _ {t : List ℕ} {a₀ e : ℕ} {es : List Slot} {l nest : ℕ} {inside :
               let w = s .placed p z in
               on-to p (h + 1) (omega arith) (w .1) (omega arith) (λ l₀ nest₀ hs x y. opened r s l₀ nest₀ hs x y ∙ rw z)
 
-      -- PUSHI
-      module _ (o : getD t a 0 ≡ 13) where
-        pushed : (r : Place) → r ≡ pushObeys t (a + 1) e es l nest → (l₀ nest₀ : ℕ) (hs : List ℕ) → l₀ + length hs ≡ l → nest₀ + length hs ≡ nest
-            → makesOne t e es inside l₀ nest₀ a (h ∷ hs) ≡ placeOn r (λ p. makesOne t e es inside l₀ nest₀ p ((h + 1) ∷ hs))
-        pushed r q l₀ nest₀ hs x y =
-            let k = fetched-op t a e n 13 f o in
-            makes-push t a e es inside l₀ nest₀ l nest h hs (omega arith) hi o x y ∙ rw q
+      -- PUSHIMM or PUSHI
+      module _ (o : 11 < getD t a 0) where
+        which : (getD t a 0 ≡ 12 → ⊥) → getD t a 0 ≡ 13
+        which k = let h = fetched-opcode t a e n f in omega arith
 
-        pub ends-pushed : {r : Place} (w : Refusal) → r ≡ pushObeys t (a + 1) e es l nest → r ≡ place.Refused w → Ends t a₀ e es l nest inside (ended.Refused DoesNotPass)
-        ends-pushed {r} w q z = refused DoesNotPass (λ l₀ nest₀ hs x y. pushed r q l₀ nest₀ hs x y ∙ rw z)
+        here : a + 1 - 1 ≡ a
+        here = omega arith
 
-        pub going-push : {r : Place} (p : ℕ) → r ≡ pushObeys t (a + 1) e es l nest → r ≡ place.At p → Going t a₀ e es l nest inside p (h + 1)
-        going-push {r} p q z =
-            let k = fetched-op t a e n 13 f o in
-            let w = push-range t (a + 1) e es l nest p (sym q ∙ z) (omega arith) in
-            on-to p (h + 1) (omega arith) (w .1) (omega arith) (λ l₀ nest₀ hs x y. pushed r q l₀ nest₀ hs x y ∙ rw z)
+        -- its operands
+        pub entry-operand : a + 2 ≤ e
+        entry-operand =
+            case (λ q. a + 2 ≤ e) (eqb (getD t a 0) 12)
+            (λ u. let k = fetched-op t a e n 12 f (eqb-true (getD t a 0) 12 (on _ u)) in omega arith)
+            (λ u. let k = fetched-op t a e n 13 f (which (eqb-false (getD t a 0) 12 (off _ u))) in omega arith)
+
+        pub entry-operands : Operands t (a + 1) e
+        entry-operands k = let j = fetched-op t a e n 13 f (which (λ q. k (rw here q))) in omega arith
+
+        -- no such entry
+        pub ends-absent : getElem? es (getD t (a + 1) 0) ≡ none → Ends t a₀ e es l nest inside (ended.Refused DoesNotPass)
+        ends-absent s = refused DoesNotPass (λ l₀ nest₀ hs x y.
+            case (λ q. makesOne t e es inside l₀ nest₀ a (h ∷ hs) ≡ false) (eqb (getD t a 0) 12)
+            (λ u.
+            let w = eqb-true (getD t a 0) 12 (on _ u) in
+            let k = fetched-op t a e n 12 f w in
+            makes-pushimm t e es inside l₀ nest₀ a lo hi h hs w (k .0) (k .1) ∙ rw s (no-need (not inside) (makesOne t e es inside l₀ nest₀ n)))
+            (λ u.
+            let w = which (eqb-false (getD t a 0) 12 (off _ u)) in
+            let k = fetched-op t a e n 13 f w in
+            makes-push t a e es inside l₀ nest₀ l nest h hs (omega arith) hi w x y ∙ rw (push-absent t (a + 1) e es l nest s)))
+          where
+            no-need : (q : Bool) (p : List ℕ → Bool) → goesOn (need q none) p ≡ false
+            no-need true p = refl
+            no-need false p = refl
+
+        module _ {r : Place} {b : ℕ} {gs : List ℕ} (i : inside ≡ ltb l nest) (s : getElem? es (getD t (a + 1) 0) ≡ some (slot b gs)) (q : r ≡ entryObeys t (a + 1) e es l nest b) where
+          entered : (l₀ nest₀ : ℕ) (hs : List ℕ) → l₀ + length hs ≡ l → nest₀ + length hs ≡ nest
+              → makesOne t e es inside l₀ nest₀ a (h ∷ hs) ≡ placeOn r (λ p. makesOne t e es inside l₀ nest₀ p ((h + 1) ∷ hs))
+          unfolding entryObeys
+          entered l₀ nest₀ hs x y =
+              case (λ c. makesOne t e es inside l₀ nest₀ a (h ∷ hs) ≡ placeOn r (λ p. makesOne t e es inside l₀ nest₀ p ((h + 1) ∷ hs))) (eqb (getD t a 0) 12)
+              (λ u.
+              let w = eqb-true (getD t a 0) 12 (on _ u) in
+              let k = fetched-op t a e n 12 f w in
+              makes-whole t a e es inside l₀ nest₀ l h hs lo hi n b gs w (k .0) (k .1) x s ∙ rw (q, here, w, i, k .0))
+              (λ u.
+              let v = eqb-false (getD t a 0) 12 (off _ u) in
+              let w = which v in
+              let k = fetched-op t a e n 13 f w in
+              makes-push t a e es inside l₀ nest₀ l nest h hs (omega arith) hi w x y ∙ rw (q, here, ne-eqb (getD t a 0) 12 v))
+
+          pub ends-entry : (w : Refusal) → r ≡ place.Refused w → Ends t a₀ e es l nest inside (ended.Refused DoesNotPass)
+          ends-entry w z = refused DoesNotPass (λ l₀ nest₀ hs x y. entered l₀ nest₀ hs x y ∙ rw z)
+
+          pub entry-range : (p : ℕ) → r ≡ place.At p → (a < p) × (p ≤ e)
+          unfolding entryObeys
+          entry-range p z =
+              case (λ c. (a < p) × (p ≤ e)) (eqb (getD t a 0) 12)
+              (λ u.
+              let w = eqb-true (getD t a 0) 12 (on _ u) in
+              let k = fetched-op t a e n 12 f w in
+              let m : a + 1 + 1 ≡ p = placed-if (not (ltb l nest) && eqb l b) (rw (here, w) at (sym q ∙ z)) in
+              (omega arith, omega arith))
+              (λ u.
+              let v = eqb-false (getD t a 0) 12 (off _ u) in
+              let w = which v in
+              let k = fetched-op t a e n 13 f w in
+              let m = push-range t (a + 1) e es l nest p (rw (here, ne-eqb (getD t a 0) 12 v) at (sym q ∙ z)) (omega arith) in
+              (omega arith, m .1))
+            where
+              placed-if : (c : Bool) → placeIf c (a + 1 + 1) ≡ place.At p → a + 1 + 1 ≡ p
+              placed-if true e = cc
+              placed-if false e = never (cc)
+
+          pub going-entry : (p : ℕ) → r ≡ place.At p → Going t a₀ e es l nest inside p (h + 1)
+          going-entry p z =
+              let w = entry-range p z in
+              on-to p (h + 1) (w .0) (w .1) (omega arith) (λ l₀ nest₀ hs x y. entered l₀ nest₀ hs x y ∙ rw z)
 
       -- the others
-      module _ {r : Terms} (x₁ : getD t a 0 ≡ 10 → ⊥) (x₂ : getD t a 0 ≡ 9 → ⊥) (x₃ : getD t a 0 ≡ 13 → ⊥) (q : r ≡ termsAt t a es inside l h) where
+      module _ {r : Terms} (x₁ : getD t a 0 ≡ 10 → ⊥) (x₂ : getD t a 0 ≡ 9 → ⊥) (x₃ : getD t a 0 ≤ 11) (q : r ≡ termsAt t a l h) where
         plain : (l₀ nest₀ : ℕ) (hs : List ℕ) → l₀ + length hs ≡ l → makesOne t e es inside l₀ nest₀ a (h ∷ hs) ≡ termsOn r (λ k. makesOne t e es inside l₀ nest₀ n (k ∷ hs))
-        plain l₀ nest₀ hs x = makes-plain t a e es inside l₀ nest₀ l h hs x lo hi n f (fetched-opcode t a e n f) x₁ x₂ x₃ ∙ rw q
+        plain l₀ nest₀ hs x = makes-plain t a e es inside l₀ nest₀ l h hs x lo hi n f x₁ x₂ x₃ ∙ rw q
 
         pub ends-plain : (w : Refusal) → r ≡ terms.Refused w → Ends t a₀ e es l nest inside (ended.Refused DoesNotPass)
         ends-plain w z = refused DoesNotPass (λ l₀ nest₀ hs x y. plain l₀ nest₀ hs x ∙ rw z)
@@ -151,7 +215,21 @@ module _ {t : List ℕ} {a₀ e : ℕ} {es : List Slot} {l nest : ℕ} {inside :
         pub going-plain : (k : ℕ) → r ≡ terms.Of k → Going t a₀ e es l nest inside n k
         going-plain k z =
             let w = fetched-is t a e n f in
-            on-to n k (omega arith) (w .1) (terms-grow t a es inside l h k (sym q ∙ z)) (λ l₀ nest₀ hs x y. plain l₀ nest₀ hs x ∙ rw z)
+            on-to n k (omega arith) (w .1) (terms-grow t a l h k (sym q ∙ z)) (λ l₀ nest₀ hs x y. plain l₀ nest₀ hs x ∙ rw z)
+
+-- ---- in a body or not, one level further down
+
+pub block-inside : {t : List ℕ} {a e : ℕ} {es : List Slot} (l nest : ℕ) {r : Ended} → Ends t a e es (l + 1) (nest + 1) (ltb (l + 1) (nest + 1)) r → Ends t a e es (l + 1) (nest + 1) (ltb l nest) r
+block-inside l nest s = rw (same l nest) at s
+  where
+    same : (l nest : ℕ) → ltb (l + 1) (nest + 1) ≡ ltb l nest
+    same l nest =
+        case (λ q. ltb (l + 1) (nest + 1) ≡ q) (ltb l nest)
+        (λ y. let h = ltb-true l nest (on _ y) in lt-ltb (l + 1) (nest + 1) (omega arith))
+        (λ y. let h = ltb-false l nest (off _ y) in le-ltb (l + 1) (nest + 1) (omega arith))
+
+pub body-inside : {t : List ℕ} {a e : ℕ} {es : List Slot} (l nest : ℕ) {r : Ended} → l ≤ nest → Ends t a e es l (nest + 1) (ltb l (nest + 1)) r → Ends t a e es l (nest + 1) true r
+body-inside l nest h s = rw (lt-ltb l (nest + 1) (omega arith)) at s
 
 -- ---- bodies: c are left at place a, with the keys in m
 

@@ -2,4 +2,5 @@ pub mod Making
 pub mod Pushing
 pub mod Ending
 pub mod Current
+pub mod Told
 pub mod Matching

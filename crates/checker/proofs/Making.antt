@@ -2,24 +2,21 @@
 use mathlib.Core.Path.{_≡_, refl, sym, _∙_}
 use Prim.Native.Nat.{ℕ, suc, _+_, _-_, _≤_, _<_}
 use native.Mathlib.Omega.{arith}
-use mathlib.Core.Bool.{Bool, true, false, not, _&&_, cond}
+use mathlib.Core.Bool.{Bool, true, false, _&&_, cond}
 use mathlib.Core.Option.{Option, none, some}
 use mathlib.Core.List.{List, [], _∷_}
 use lib.Dec.{eqb, leb, ltb}
-use lib.ListN.{length, getD, getElem?}
+use lib.ListN.{length, getD}
 use borrow.Author.Tests.{eq-eqb, ne-eqb, le-leb, lt-leb, lt-ltb, le-ltb, eqb-true, eqb-false}
 use Rattle.documents.specs.declared.Refusal.{Refusal}
 use Rattle.documents.specs.declared.Refusal.the-variants.{DoesNotPass}
 use Rattle.documents.specs.Lists.{need, andThen}
 use Rattle.documents.specs.Instructions.{IS, ISABST, NEXT, CHECK, SET, EQVAR, EQIMM, EQI, CELL, LAMBDA, ADBMAL, PUSHVAR, PUSHIMM, PUSHI, Instruction, Program, Read, whole, opcode, before}
-use Rattle.documents.specs.Passing.{Slot, slot, withSlot, blocks, shut, oneTerm, build}
+use Rattle.documents.specs.Passing.{Slot, blocks, shut, oneTerm, build}
 use Rattle.documents.proofs.Lists.{never, case, on, off}
 use Rattle.instructions.specs.declared.Place.the-variants as place
 use Rattle.instructions.specs.Places.{programAt, readAt, fetched}
 use Rattle.instructions.proofs.Reading.{read-opcode, fetched-op, program-plain, program-unfetched, program-done, read-cell, read-lambda, read-adbmal, read-pushvar, read-pushimm}
-use Rattle.turns.specs.declared.entries.Entries.{Entries}
-use Rattle.turns.specs.Held.{entriesOf, foundIn, sameDepth}
-use Rattle.turns.proofs.Turning.{slotTest, same-depth}
 use Rattle.checker.specs.declared.build.Ended.{Ended}
 use Rattle.checker.specs.declared.build.Terms.{Terms}
 use Rattle.checker.specs.declared.build.Ended.the-variants as ended
@@ -96,7 +93,7 @@ module _ (t : List ℕ) (e : ℕ) (es : List Slot) (inside : Bool) (l nest : ℕ
           → makesOne t e es inside l nest a (h ∷ hs) ≡ goesOn (build es inside l nest (PUSHVAR (getD t (a + 1) 0)) (h ∷ hs)) (makesOne t e es inside l nest n)
       makes-pushvar o f k = makes-read (PUSHVAR (getD t (a + 1) 0)) 1 (h ∷ hs) (λ q. omega arith) (read-pushvar t a e o f k) ∙ rw f
 
-      makes-pushimm : getD t a 0 ≡ 12 → n ≡ a + 1 + 1 → n ≤ e
+      pub makes-pushimm : getD t a 0 ≡ 12 → n ≡ a + 1 + 1 → n ≤ e
           → makesOne t e es inside l nest a (h ∷ hs) ≡ goesOn (build es inside l nest (PUSHIMM (getD t (a + 1) 0)) (h ∷ hs)) (makesOne t e es inside l nest n)
       makes-pushimm o f k = makes-read (PUSHIMM (getD t (a + 1) 0)) 1 (h ∷ hs) (λ q. omega arith) (read-pushimm t a e o f k) ∙ rw f
 
@@ -144,14 +141,14 @@ module _ (t : List ℕ) (e : ℕ) (es : List Slot) (inside : Bool) (l nest : ℕ
       go (h₀ ∷ ks) true p = refl
       go (h₀ ∷ ks) false p = refl
 
--- ---- the terms after a CELL, PUSHVAR or PUSHIMM, whatever blocks are around
+-- ---- the terms after a CELL or PUSHVAR, whatever blocks are around
 
 abbrev pub termsOn : Terms → (ℕ → Bool) → Bool
 termsOn (terms.Of h) f = f h
 termsOn (terms.Refused w) f = false
 
 module _ (es : List Slot) (inside : Bool) (l nest L h : ℕ) (hs : List ℕ) (around : l + length hs ≡ L) (f : List ℕ → Bool) where
-  cell-on : (s n : ℕ) → goesOn (build es inside l nest (CELL s n) (h ∷ hs)) f ≡ termsOn (termsOf (build es inside L 0 (CELL s n) (h ∷ []))) (λ k. f (k ∷ hs))
+  cell-on : (s n : ℕ) → goesOn (build es inside l nest (CELL s n) (h ∷ hs)) f ≡ termsOn (termsOf (build [] false L 0 (CELL s n) (h ∷ []))) (λ k. f (k ∷ hs))
   cell-on s n = go (leb s 65535) (leb n 8) (leb n h)
     where
       go : (x y z : Bool) → goesOn (need x (need y (need z (some ((h - n + 1) ∷ hs))))) f ≡ termsOn (termsOf (need x (need y (need z (some ((h - n + 1) ∷ [])))))) (λ k. f (k ∷ hs))
@@ -170,43 +167,38 @@ module _ (es : List Slot) (inside : Bool) (l nest L h : ℕ) (hs : List ℕ) (ar
   one-on true = refl
   one-on false = refl
 
-  pushvar-on : (x : ℕ) → goesOn (build es inside l nest (PUSHVAR x) (h ∷ hs)) f ≡ termsOn (termsOf (build es inside L 0 (PUSHVAR x) (h ∷ []))) (λ k. f (k ∷ hs))
+  pushvar-on : (x : ℕ) → goesOn (build es inside l nest (PUSHVAR x) (h ∷ hs)) f ≡ termsOn (termsOf (build [] false L 0 (PUSHVAR x) (h ∷ []))) (λ k. f (k ∷ hs))
   pushvar-on x = rw (inner, outer) (one-on (ltb x L))
 
-  pushimm-on : (x : ℕ) → goesOn (build es inside l nest (PUSHIMM x) (h ∷ hs)) f ≡ termsOn (termsOf (build es inside L 0 (PUSHIMM x) (h ∷ []))) (λ k. f (k ∷ hs))
-  pushimm-on x = rw (inner, outer) (go inside (getElem? es x))
-    where
-      go : (i : Bool) (o : Option Slot) → goesOn (need (not i) (withSlot o (λ b g. need (eqb L b) (some ((h + 1) ∷ hs))))) f
-          ≡ termsOn (termsOf (need (not i) (withSlot o (λ b g. need (eqb L b) (some ((h + 1) ∷ [])))))) (λ k. f (k ∷ hs))
-      go true o = refl
-      go false none = refl
-      go false (some (slot b g)) = one-on (eqb L b)
-
 module _ (t : List ℕ) (a e : ℕ) (es : List Slot) (inside : Bool) (l nest L h : ℕ) (hs : List ℕ) (around : l + length hs ≡ L) (lo : a < e) (hi : e ≤ length t) where
-  -- an instruction that is no ADBMAL, LAMBDA or PUSHI
-  pub makes-plain : (n : ℕ) → fetched t a e ≡ place.At n → getD t a 0 ≤ 13 → (getD t a 0 ≡ 10 → ⊥) → (getD t a 0 ≡ 9 → ⊥) → (getD t a 0 ≡ 13 → ⊥)
-      → makesOne t e es inside l nest a (h ∷ hs) ≡ termsOn (termsAt t a es inside L h) (λ k. makesOne t e es inside l nest n (k ∷ hs))
+  -- an instruction that is no LAMBDA, no ADBMAL and asks for no entry
+  pub makes-plain : (n : ℕ) → fetched t a e ≡ place.At n → (getD t a 0 ≡ 10 → ⊥) → (getD t a 0 ≡ 9 → ⊥) → getD t a 0 ≤ 11
+      → makesOne t e es inside l nest a (h ∷ hs) ≡ termsOn (termsAt t a L h) (λ k. makesOne t e es inside l nest n (k ∷ hs))
   unfolding termsAt
-  makes-plain n p w₁ w₂ w₃ w₄ =
+  makes-plain n p w₁ w₂ w₃ =
       case Claim (eqb (getD t a 0) 8)
-      (λ y. let o = eqb-true (getD t a 0) 8 (on _ y) in let f = fetched-op t a e n 8 p o in rw o (makes-cell t e es inside l nest a lo hi h hs o (f .0) (f .1) ∙ cell-on es inside l nest L h hs around (makesOne t e es inside l nest n) (getD t (a + 1) 0) (getD t (a + 2) 0)))
+      (λ y.
+      let o = eqb-true (getD t a 0) 8 (on _ y) in
+      let f = fetched-op t a e n 8 p o in
+      rw o (makes-cell t e es inside l nest a lo hi h hs o (f .0) (f .1)
+      ∙ cell-on es inside l nest L h hs around (makesOne t e es inside l nest n) (getD t (a + 1) 0) (getD t (a + 2) 0)))
       (λ y.
       case Claim (eqb (getD t a 0) 11)
-      (λ z. let o = eqb-true (getD t a 0) 11 (on _ z) in let f = fetched-op t a e n 11 p o in rw o (makes-pushvar t e es inside l nest a lo hi h hs o (f .0) (f .1) ∙ pushvar-on es inside l nest L h hs around (makesOne t e es inside l nest n) (getD t (a + 1) 0)))
       (λ z.
-      case Claim (eqb (getD t a 0) 12)
-      (λ u. let o = eqb-true (getD t a 0) 12 (on _ u) in let f = fetched-op t a e n 12 p o in rw o (makes-pushimm t e es inside l nest a lo hi h hs o (f .0) (f .1) ∙ pushimm-on es inside l nest L h hs around (makesOne t e es inside l nest n) (getD t (a + 1) 0)))
-      (λ u.
+      let o = eqb-true (getD t a 0) 11 (on _ z) in
+      let f = fetched-op t a e n 11 p o in
+      rw o (makes-pushvar t e es inside l nest a lo hi h hs o (f .0) (f .1)
+      ∙ pushvar-on es inside l nest L h hs around (makesOne t e es inside l nest n) (getD t (a + 1) 0)))
+      (λ z.
       let n₈ = eqb-false (getD t a 0) 8 (off _ y) in
       let n₁₁ = eqb-false (getD t a 0) 11 (off _ z) in
-      let n₁₂ = eqb-false (getD t a 0) 12 (off _ u) in
-      rw (off (eqb (getD t a 0) 8) y, off (eqb (getD t a 0) 11) z, off (eqb (getD t a 0) 12) u) (makes-match t e es inside l nest a lo hi (h ∷ hs) (low w₁ w₂ w₃ w₄ n₈ n₁₁ n₁₂)))))
+      rw (off (eqb (getD t a 0) 8) y, off (eqb (getD t a 0) 11) z) (makes-match t e es inside l nest a lo hi (h ∷ hs) (low w₁ w₂ w₃ n₈ n₁₁))))
     where
       Claim : Bool → Type 0
-      Claim q = makesOne t e es inside l nest a (h ∷ hs) ≡ termsOn (termsAt t a es inside L h) (λ k. makesOne t e es inside l nest n (k ∷ hs))
+      Claim q = makesOne t e es inside l nest a (h ∷ hs) ≡ termsOn (termsAt t a L h) (λ k. makesOne t e es inside l nest n (k ∷ hs))
 
-      low : {w : ℕ} → w ≤ 13 → (w ≡ 10 → ⊥) → (w ≡ 9 → ⊥) → (w ≡ 13 → ⊥) → (w ≡ 8 → ⊥) → (w ≡ 11 → ⊥) → (w ≡ 12 → ⊥) → w ≤ 7
-      low a b c d e f g = omega arith
+      low : {w : ℕ} → (w ≡ 10 → ⊥) → (w ≡ 9 → ⊥) → w ≤ 11 → (w ≡ 8 → ⊥) → (w ≡ 11 → ⊥) → w ≤ 7
+      low b c a d e = omega arith
 
 -- ---- the functions' own tests, in the code's order
 
@@ -241,49 +233,30 @@ module _ (s n h : ℕ) where
     pub cell-there : n ≤ 8 → n ≤ h → terms.Of (h - n + 1) ≡ Cell
     cell-there q r = rw (le-leb s 65535 p, le-leb n 8 q, le-leb n h r)
 
-module _ (t : List ℕ) (a : ℕ) (es : List Slot) (inside : Bool) (l h : ℕ) where
-  pub terms-cell : (r : Terms) → getD t a 0 ≡ 8 → r ≡ Cell (getD t (a + 1) 0) (getD t (a + 2) 0) h → r ≡ termsAt t a es inside l h
+module _ (t : List ℕ) (a l h : ℕ) where
+  pub terms-cell : (r : Terms) → getD t a 0 ≡ 8 → r ≡ Cell (getD t (a + 1) 0) (getD t (a + 2) 0) h → r ≡ termsAt t a l h
   unfolding termsAt
   terms-cell r o e = e ∙ rw o
 
   open-here : l + (1 - 1) ≡ l
   open-here = omega arith
 
-  pub terms-high : getD t a 0 ≡ 11 → l ≤ getD t (a + 1) 0 → terms.Refused DoesNotPass ≡ termsAt t a es inside l h
+  pub terms-other : (getD t a 0 ≡ 8 → ⊥) → (getD t a 0 ≡ 11 → ⊥) → terms.Refused DoesNotPass ≡ termsAt t a l h
+  unfolding termsAt
+  terms-other x y = rw (ne-eqb (getD t a 0) 8 x, ne-eqb (getD t a 0) 11 y)
+
+  pub terms-high : getD t a 0 ≡ 11 → l ≤ getD t (a + 1) 0 → terms.Refused DoesNotPass ≡ termsAt t a l h
   unfolding termsAt
   terms-high o k = rw (o, open-here, le-ltb (getD t (a + 1) 0) l k)
 
-  pub terms-pushvar : getD t a 0 ≡ 11 → getD t (a + 1) 0 < l → terms.Of (h + 1) ≡ termsAt t a es inside l h
+  pub terms-pushvar : getD t a 0 ≡ 11 → getD t (a + 1) 0 < l → terms.Of (h + 1) ≡ termsAt t a l h
   unfolding termsAt
   terms-pushvar o k = rw (o, open-here, lt-ltb (getD t (a + 1) 0) l k)
 
-  pub terms-other : (getD t a 0 ≡ 8 → ⊥) → (getD t a 0 ≡ 11 → ⊥) → (getD t a 0 ≡ 12 → ⊥) → terms.Refused DoesNotPass ≡ termsAt t a es inside l h
-  unfolding termsAt
-  terms-other x y z = rw (ne-eqb (getD t a 0) 8 x, ne-eqb (getD t a 0) 11 y, ne-eqb (getD t a 0) 12 z)
-
-  pub terms-inside : getD t a 0 ≡ 12 → inside ≡ true → terms.Refused DoesNotPass ≡ termsAt t a es inside l h
-  unfolding termsAt
-  terms-inside o i = rw (o, i)
-
-module _ (t : List ℕ) (a : ℕ) (e : Entries) (inside : Bool) (l h : ℕ) (o : getD t a 0 ≡ 12) (i : inside ≡ false) where
-  terms-imm : termsAt t a (entriesOf t e) inside l h ≡ termsOf (need (sameDepth (foundIn e (getD t (a + 1) 0)) l) (some ((h + 1) ∷ [])))
-  unfolding termsAt
-  terms-imm = let z : l + (1 - 1) ≡ l = omega arith in rw (o, i, z, sym (same-depth t e (getD t (a + 1) 0) l)) (go (getElem? (entriesOf t e) (getD t (a + 1) 0)))
-    where
-      go : (s : Option Slot) → termsOf (withSlot s (λ b g. need (eqb l b) (some ((h + 1) ∷ [])))) ≡ termsOf (need (slotTest s (λ b g. eqb l b)) (some ((h + 1) ∷ [])))
-      go none = refl
-      go (some (slot b g)) = refl
-
-  pub terms-apart : sameDepth (foundIn e (getD t (a + 1) 0)) l ≡ false → terms.Refused DoesNotPass ≡ termsAt t a (entriesOf t e) inside l h
-  terms-apart q = sym (terms-imm ∙ rw q)
-
-  pub terms-pushimm : sameDepth (foundIn e (getD t (a + 1) 0)) l ≡ true → terms.Of (h + 1) ≡ termsAt t a (entriesOf t e) inside l h
-  terms-pushimm q = sym (terms-imm ∙ rw q)
-
 -- at most one term more
-pub terms-grow : (t : List ℕ) (a : ℕ) (es : List Slot) (inside : Bool) (l h k : ℕ) → termsAt t a es inside l h ≡ terms.Of k → k ≤ h + 1
+pub terms-grow : (t : List ℕ) (a l h k : ℕ) → termsAt t a l h ≡ terms.Of k → k ≤ h + 1
 unfolding termsAt
-terms-grow t a es inside l h k e = first (eqb (getD t a 0) 8) (eqb (getD t a 0) 11) (eqb (getD t a 0) 12) e
+terms-grow t a l h k e = first (eqb (getD t a 0) 8) (eqb (getD t a 0) 11) e
   where
     Bounded : Option (List ℕ) → Type 0
     Bounded o = termsOf o ≡ terms.Of k → k ≤ h + 1
@@ -292,19 +265,13 @@ terms-grow t a es inside l h k e = first (eqb (getD t a 0) 8) (eqb (getD t a 0) 
     needs true o b = b
     needs false o b = λ p. never (cc)
 
-    slots : (s : Option Slot) (f : ℕ → List ℕ → Option (List ℕ)) → ((b : ℕ) (g : List ℕ) → Bounded (f b g)) → Bounded (withSlot s f)
-    slots none f b = λ p. never (cc)
-    slots (some (slot d g)) f b = b d g
-
     made : (n : ℕ) → n ≤ h + 1 → Bounded (some (n ∷ []))
     made n b p = let z : n ≡ k = cc in omega arith
 
-    first : (x y z : Bool)
-        → cond x (termsOf (build es inside l 0 (CELL (getD t (a + 1) 0) (getD t (a + 2) 0)) (h ∷ [])))
-        (cond y (termsOf (build es inside l 0 (PUSHVAR (getD t (a + 1) 0)) (h ∷ [])))
-        (cond z (termsOf (build es inside l 0 (PUSHIMM (getD t (a + 1) 0)) (h ∷ []))) (terms.Refused DoesNotPass)))
+    first : (x y : Bool)
+        → cond x (termsOf (build [] false l 0 (CELL (getD t (a + 1) 0) (getD t (a + 2) 0)) (h ∷ [])))
+        (cond y (termsOf (build [] false l 0 (PUSHVAR (getD t (a + 1) 0)) (h ∷ []))) (terms.Refused DoesNotPass))
         ≡ terms.Of k → k ≤ h + 1
-    first true y z = needs (leb (getD t (a + 1) 0) 65535) _ (needs (leb (getD t (a + 2) 0) 8) _ (needs (leb (getD t (a + 2) 0) h) _ (made (h - getD t (a + 2) 0 + 1) (omega arith))))
-    first false true z = needs (ltb (getD t (a + 1) 0) (l + (1 - 1))) _ (made (h + 1) (omega arith))
-    first false false true = needs (not inside) _ (slots (getElem? es (getD t (a + 1) 0)) _ (λ b g. needs (eqb (l + (1 - 1)) b) _ (made (h + 1) (omega arith))))
-    first false false false = λ p. never (cc)
+    first true y = needs (leb (getD t (a + 1) 0) 65535) _ (needs (leb (getD t (a + 2) 0) 8) _ (needs (leb (getD t (a + 2) 0) h) _ (made (h - getD t (a + 2) 0 + 1) (omega arith))))
+    first false true = needs (ltb (getD t (a + 1) 0) (l + (1 - 1))) _ (made (h + 1) (omega arith))
+    first false false = λ p. never (cc)

@@ -1,13 +1,13 @@
 -- The match part at a place: what each instruction makes of the state, and where the build part begins.
 use mathlib.Core.Path.{_≡_, refl, sym, ap, _∙_}
-use Prim.Native.Nat.{ℕ, zero, suc, _+_, _-_, _≤_, _<_}
+use Prim.Native.Nat.{ℕ, _+_, _-_, _≤_, _<_}
 use native.Mathlib.Omega.{arith}
 use mathlib.Core.Bool.{Bool, true, false, cond, and-false}
 use mathlib.Core.Option.{Option, none, some}
 use mathlib.Core.List.{List, [], _∷_}
 use lib.Dec.{eqb, leb, ltb}
 use lib.ListN.{length, getD, getElem?, take, drop, set, replicate, length-replicate, length-set}
-use borrow.Author.Tests.{ne-eqb, le-leb, lt-leb, lt-ltb, le-ltb, eqb-true, eqb-false, ltb-true}
+use borrow.Author.Tests.{eq-eqb, ne-eqb, le-leb, lt-leb, lt-ltb, le-ltb, eqb-true, eqb-false, ltb-true, leb-true}
 use Rattle.documents.specs.declared.Refusal.{Refusal}
 use Rattle.documents.specs.declared.Refusal.the-variants.{DoesNotPass}
 use Rattle.documents.specs.Lists.{need, andThen}
@@ -19,20 +19,22 @@ use Rattle.documents.specs.Passing.{Slot, slot, withSlot, covers, seconds, allB
 use Rattle.documents.proofs.Lists.{never, case, on, off, T-of, of-and}
 use Rattle.instructions.specs.Places.{programAt, readAt}
 use Rattle.instructions.proofs.Reading.{First, read-opcode, read-within, read-check, program-plain, program-first, program-done}
+use Rattle.indices.specs.Sets.{gathered}
 use Rattle.turns.specs.declared.Turned.{Turned}
 use Rattle.turns.specs.declared.entries.Entries.{Entries}
 use Rattle.turns.specs.declared.Turned.the-variants as turned
-use Rattle.turns.specs.Held.{stacked, listAt, slots, entriesOf, Low, Small, AllSmall, Sound}
+use Rattle.turns.specs.Held.{stacked, slots, entriesOf, Low, Sound}
 use Rattle.turns.specs.Turns.{isThere, allowed, termsPut, depthPut, turnIf, turnBy, turnAt}
 use Rattle.turns.proofs.Turning.{turn-read, turn-none, Ranged, turn-range, needed-there}
-use Rattle.turns.proofs.Entered.{list-none, list-at, entries-length, slots-more}
+use Rattle.turns.proofs.Entered.{entries-length, slots-more}
 use Rattle.checker.specs.declared.Checked.{Checked}
 use Rattle.checker.specs.declared.Checked.the-variants.{Passes, Refused}
 use Rattle.checker.specs.declared.build.Ended.{Ended}
 use Rattle.checker.specs.declared.build.Ended.the-variants as ended
-use Rattle.checker.specs.Matched.{passesAt, verdict, BuildsAt, guardPut}
+use Rattle.checker.specs.Matched.{passesAt, verdict, BuildsAt, listBehind, Listing}
 use Rattle.checker.specs.Built.{makesOne, onward, Ends}
 use Rattle.checker.proofs.Ending.{not-done}
+use Rattle.checker.proofs.Told.{allTold, length-told, build-told, turn-told}
 use Rattle.checker.proofs.Current.{stacked-length, stacked-top, replaced, stacked-replaced, length-replaced, low-replicate, low-replaced, low-set}
 
 -- ---- an instruction's effect, where it is allowed
@@ -169,40 +171,50 @@ module _ (t : List ℕ) (a : ℕ) (lo : a < length t) where
       go (some (whole i n)) r = passes-read i n (matching [] es g) w r
 
   -- the list of a CHECK that is read here
-  list-here : (i : Instruction) (n : ℕ) → readAt t a (length t) ≡ some (whole i n) → listPut i ≡ listAt t (guardPut (getD t a 0) a)
-  unfolding guardPut
+  list-here : (i : Instruction) (n : ℕ) → readAt t a (length t) ≡ some (whole i n) → listPut i ≡ listBehind t a
+  unfolding listBehind
   list-here i n r =
-      case (λ q. listPut i ≡ listAt t (cond q (a + 1) 0)) (eqb (getD t a 0) 3)
+      case (λ q. listPut i ≡ cond q (take (getD t (a + 1) 0) (drop (a + 2) t)) []) (eqb (getD t a 0) 3)
       (λ y.
       let o = eqb-true (getD t a 0) 3 (on _ y) in
       let k : a + 1 + 1 ≤ length t = rw o at (read-within t a (length t) i n lo r .0) in
-      let z : a + 1 + 1 ≡ a + 2 = omega arith in
-      rw (list-at t (a + 1) (λ q. omega arith), z) (there (leb (1 + getD t (a + 1) 0) (length t - (a + 1))) (sym (read-check t a (length t) o refl k) ∙ r)))
+      there (leb (1 + getD t (a + 1) 0) (length t - (a + 1))) (sym (read-check t a (length t) o refl k) ∙ r))
       (λ y.
       let o = read-opcode t a (length t) i n r in
-      no-list i (λ q. eqb-false (getD t a 0) 3 (off _ y) (sym o ∙ q)) ∙ sym (list-none t 0 refl))
+      no-list i (λ q. eqb-false (getD t a 0) 3 (off _ y) (sym o ∙ q)))
     where
       there : (q : Bool) → need q (some (whole (CHECK (take (getD t (a + 1) 0) (drop (a + 2) t))) (1 + getD t (a + 1) 0))) ≡ some (whole i n)
           → listPut i ≡ take (getD t (a + 1) 0) (drop (a + 2) t)
       there true q = let z : CHECK (take (getD t (a + 1) 0) (drop (a + 2) t)) ≡ i = cc in rw (sym z)
       there false q = never (cc)
 
-  -- so the guard that a turn leaves is small
-  pub turn-small : (d below : ℕ) (es : List Slot) (p n b : ℕ) → d ≤ 63 → turned.To p n b ≡ turnAt t a d below es → Small t (guardPut (getD t a 0) a)
-  unfolding turnAt
-  turn-small d below es p n b l h = go (readAt t a (length t)) refl (sym h)
+  -- it lies within the code, and its indices are below 64
+  pub turn-listing : (d below : ℕ) (es : List Slot) (p n b : ℕ) → d ≤ 63 → turned.To p n b ≡ turnAt t a d below es → Listing t a
+  unfolding turnAt listBehind
+  turn-listing d below es p n b l h o = go (readAt t a (length t)) refl (sym h)
     where
-      go : (o : Option Read) → readAt t a (length t) ≡ o → turnBy o a d below es ≡ turned.To p n b → Small t (guardPut (getD t a 0) a)
+      go : (u : Option Read) → readAt t a (length t) ≡ u → turnBy u a d below es ≡ turned.To p n b
+          → (a + 2 + getD t (a + 1) 0 ≤ length t) × (allBelow 64 (take (getD t (a + 1) 0) (drop (a + 2) t)) ≡ true)
       go none r q = never (cc)
       go (some (whole i m)) r q =
-          case (λ x. turnIf x (a + 1 + m) (termsPut i) (depthPut i d) ≡ turned.To p n b → Small t (guardPut (getD t a 0) a)) (allowed i d below es)
-          (λ y s. rw (sym (list-here i m r)) (listed-small i d below es l (on _ y)))
+          case (λ x. turnIf x (a + 1 + m) (termsPut i) (depthPut i d) ≡ turned.To p n b
+          → (a + 2 + getD t (a + 1) 0 ≤ length t) × (allBelow 64 (take (getD t (a + 1) 0) (drop (a + 2) t)) ≡ true)) (allowed i d below es)
+          (λ y s.
+          let k : a + 1 + 1 ≤ length t = rw o at (read-within t a (length t) i m lo r .0) in
+          let w = room (leb (1 + getD t (a + 1) 0) (length t - (a + 1))) refl (sym (read-check t a (length t) o refl k) ∙ r) in
+          let e : listPut i ≡ take (getD t (a + 1) 0) (drop (a + 2) t) = rw (eq-eqb (getD t a 0) 3 o) at (list-here i m r) in
+          (omega arith, rw (sym e) (listed-small i d below es l (on _ y))))
           (λ y s. never (cc)) q
+        where
+          room : (c : Bool) → leb (1 + getD t (a + 1) 0) (length t - (a + 1)) ≡ c
+              → need c (some (whole (CHECK (take (getD t (a + 1) 0) (drop (a + 2) t))) (1 + getD t (a + 1) 0))) ≡ some (whole i m) → 1 + getD t (a + 1) 0 ≤ length t - (a + 1)
+          room true c q = leb-true (1 + getD t (a + 1) 0) (length t - (a + 1)) c
+          room false c q = never (cc)
 
   -- the state after a turn
   pub passes-turn : (d : ℕ) (ds : List ℕ) (es : List Slot) (g : List ℕ) → getD t a 0 ≤ 7
       → passesAt t a (matching (d ∷ ds) es g)
-      ≡ turnedOn (turnAt t a d (length ds) es) (λ p n b. passesAt t p (matching (times n b ds) (entriesPut (getD t a 0) d g es) (listAt t (guardPut (getD t a 0) a))))
+      ≡ turnedOn (turnAt t a d (length ds) es) (λ p n b. passesAt t p (matching (times n b ds) (entriesPut (getD t a 0) d g es) (listBehind t a)))
   passes-turn d ds es g w = go (readAt t a (length t)) refl
     where
       on-if : (q : Bool) (p n b : ℕ) (m : Matching) (f : ℕ → ℕ → ℕ → Bool) → f p n b ≡ passesAt t p m → andThenHolds (cond q (some m) none) (passesAt t p) ≡ turnedOn (turnIf q p n b) f
@@ -210,15 +222,15 @@ module _ (t : List ℕ) (a : ℕ) (lo : a < length t) where
       on-if false p n b m f e = refl
 
       go : (o : Option Read) → readAt t a (length t) ≡ o → passesAt t a (matching (d ∷ ds) es g)
-          ≡ turnedOn (turnAt t a d (length ds) es) (λ p n b. passesAt t p (matching (times n b ds) (entriesPut (getD t a 0) d g es) (listAt t (guardPut (getD t a 0) a))))
+          ≡ turnedOn (turnAt t a d (length ds) es) (λ p n b. passesAt t p (matching (times n b ds) (entriesPut (getD t a 0) d g es) (listBehind t a)))
       go none r = passes-unread (matching (d ∷ ds) es g) w r ∙ rw (turn-none t a d es (length ds) r)
       go (some (whole i n)) r =
           let o = read-opcode t a (length t) i n r in
           passes-read i n (matching (d ∷ ds) es g) w r
           ∙ rw (match-by i d ds es g (omega arith), turn-read t a d es (length ds) i n r, o, list-here i n r)
           (on-if (allowed i d (length ds) es) (a + 1 + n) (termsPut i) (depthPut i d)
-          (matching (times (termsPut i) (depthPut i d) ds) (entriesPut (getD t a 0) d g es) (listAt t (guardPut (getD t a 0) a)))
-          (λ p n b. passesAt t p (matching (times n b ds) (entriesPut (getD t a 0) d g es) (listAt t (guardPut (getD t a 0) a)))) refl)
+          (matching (times (termsPut i) (depthPut i d) ds) (entriesPut (getD t a 0) d g es) (listBehind t a))
+          (λ p n b. passesAt t p (matching (times n b ds) (entriesPut (getD t a 0) d g es) (listBehind t a))) refl)
 
   -- ---- the build part
 
@@ -244,56 +256,51 @@ module _ (t : List ℕ) (a : ℕ) (lo : a < length t) where
       go none = refl
       go (some c) = refl
 
+-- the build part asks the same of guards that are told by their sets
+pub builds-told : (t : List ℕ) (a : ℕ) (ds : List ℕ) (es : List Slot) (g : List ℕ) → a < length t → 7 < getD t a 0
+    → passesAt t a (matching ds (allTold es) g) ≡ passesAt t a (matching ds es g)
+builds-told t a [] es g lo w = builds-here t a lo (allTold es) g w ∙ go (programAt t a (length t)) ∙ sym (builds-here t a lo es g w)
+  where
+    go : (o : Option Program) → oneTerm (andThen o (λ c. build (allTold es) false 0 0 c (0 ∷ []))) ≡ oneTerm (andThen o (λ c. build es false 0 0 c (0 ∷ [])))
+    go none = refl
+    go (some c) = ap oneTerm (build-told c es false 0 0 (0 ∷ []))
+builds-told t a (d ∷ ds) es g lo w = builds-left t a lo d ds (allTold es) g w ∙ sym (builds-left t a lo d ds es g w)
+
 -- the words are used up
 pub passes-ended : (t : List ℕ) (a : ℕ) (m : Matching) → a ≡ length t → passesAt t a m ≡ false
 passes-ended t a m e = rw (e, program-done t (length t))
 
 -- ---- the loop: what the arrays hold at place a
 
+-- es and g are the entries and the list of 01's state; the arrays hold them, each guard as its set.
 pub record Matched (t current : List ℕ) (terms : ℕ) (n : Entries) (guard a : ℕ) : Type 0 where
-  pub same : passesAt t 0 (matching (0 ∷ []) [] []) ≡ passesAt t a (matching (stacked terms current) (entriesOf t n) (listAt t guard))
+  pub es : List Slot
+  pub g : List ℕ
+  pub same : passesAt t 0 (matching (0 ∷ []) [] []) ≡ passesAt t a (matching (stacked terms current) es g)
+  pub held : entriesOf n ≡ allTold es
+  pub guarded : guard ≡ gathered 0 g
   pub many : terms ≤ 256
   pub whole-current : length current ≡ 256
   pub low : Low current
-  pub sound : Sound t n
+  pub sound : Sound n
   pub whole-depths : length (n .depths) ≡ 16
   pub whole-guards : length (n .guards) ≡ 16
-  pub listed : Small t guard
   pub within : a ≤ length t
 
--- no guard has no index
-no-guard : (t : List ℕ) → Small t 0
-no-guard t = rw (list-none t 0 refl)
-
-small-replicate : (t : List ℕ) (n : ℕ) → AllSmall t (replicate n 0)
-small-replicate t n = record { small = go n }
-  where
-    go : (n i : ℕ) → Small t (getD (replicate n 0) i 0)
-    go zero i = no-guard t
-    go (suc n) zero = no-guard t
-    go (suc n) (suc i) = go n i
-
-small-set : {t gs : List ℕ} (k g : ℕ) → AllSmall t gs → Small t g → AllSmall t (set gs k g)
-small-set {t} {gs} k g p h = record { small = λ i. go gs k i (p .small) }
-  where
-    go : (xs : List ℕ) (k i : ℕ) → ((i : ℕ) → Small t (getD xs i 0)) → Small t (getD (set xs k g) i 0)
-    go [] k i q = q i
-    go (x ∷ xs) zero zero q = h
-    go (x ∷ xs) zero (suc i) q = q (suc i)
-    go (x ∷ xs) (suc k) zero q = q 0
-    go (x ∷ xs) (suc k) (suc i) q = go xs k i (λ j. q (suc j))
-
 pub matched-from : (t : List ℕ) → Matched t (replicate 256 0) 1 (record { count = 0; depths = replicate 16 0; guards = replicate 16 0 }) 0 0
-unfolding stacked slots
+unfolding stacked slots gathered
 matched-from t = record {
-  same = ap (λ (l : List ℕ). passesAt t 0 (matching (0 ∷ []) [] l)) (sym (list-none t 0 refl));
+  es = [];
+  g = [];
+  same = refl;
+  held = refl;
+  guarded = refl;
   many = omega arith;
   whole-current = refl;
   low = low-replicate 256 (omega arith);
-  sound = record { few = omega arith; depths = low-replicate 16 (omega arith); guards = small-replicate t 16 };
+  sound = record { few = omega arith; depths = low-replicate 16 (omega arith) };
   whole-depths = refl;
   whole-guards = refl;
-  listed = no-guard t;
   within = omega arith;
 }
 
@@ -301,48 +308,62 @@ module _ {t current : List ℕ} {terms : ℕ} {n : Entries} {guard a : ℕ} (m :
   pub matched-ended : length t ≤ a → Refused DoesNotPass ≡ verdict (passesAt t 0 (matching (0 ∷ []) [] []))
   matched-ended h =
       let w = m .within in
-      rw (m .same ∙ passes-ended t a (matching (stacked terms current) (entriesOf t n) (listAt t guard)) (omega arith))
+      rw (m .same ∙ passes-ended t a (matching (stacked terms current) (m .es) (m .g)) (omega arith))
 
   module _ (lo : a < length t) where
-    pub matched-builds : {r : Checked} → BuildsAt t a terms (entriesOf t n) r → r ≡ verdict (passesAt t 0 (matching (0 ∷ []) [] []))
-    matched-builds b = b .means (stacked terms current) (listAt t guard) (stacked-length terms current) ∙ rw (m .same)
+    pub matched-builds : {r : Checked} → 7 < getD t a 0 → BuildsAt t a terms (entriesOf n) r → r ≡ verdict (passesAt t 0 (matching (0 ∷ []) [] []))
+    matched-builds w b =
+        b .means (stacked terms current) (m .g) (stacked-length terms current)
+        ∙ ap verdict (ap (λ (l : List Slot). passesAt t a (matching (stacked terms current) l (m .g))) (m .held)
+        ∙ builds-told t a (stacked terms current) (m .es) (m .g) lo w ∙ sym (m .same))
 
     module _ (w : getD t a 0 ≤ 7) where
       pub matched-bare : terms ≡ 0 → Refused DoesNotPass ≡ verdict (passesAt t 0 (matching (0 ∷ []) [] []))
       unfolding stacked
-      matched-bare z = rw (m .same ∙ ap (λ (k : ℕ). passesAt t a (matching (stacked k current) (entriesOf t n) (listAt t guard))) z ∙ passes-bare t a lo (entriesOf t n) (listAt t guard) w)
+      matched-bare z = rw (m .same ∙ ap (λ (k : ℕ). passesAt t a (matching (stacked k current) (m .es) (m .g))) z ∙ passes-bare t a lo (m .es) (m .g) w)
 
       -- a turn, with the top at depth d
       module _ {d : ℕ} (k : 0 < terms) (top : d ≡ getD current (terms - 1) 0) where
         turned-to : passesAt t 0 (matching (0 ∷ []) [] [])
-            ≡ turnedOn (turnAt t a d (terms - 1) (entriesOf t n)) (λ p c b.
-            passesAt t p (matching (times c b (stacked (terms - 1) current)) (entriesPut (getD t a 0) d (listAt t guard) (entriesOf t n)) (listAt t (guardPut (getD t a 0) a))))
+            ≡ turnedOn (turnAt t a d (terms - 1) (m .es)) (λ p c b.
+            passesAt t p (matching (times c b (stacked (terms - 1) current)) (entriesPut (getD t a 0) d (m .g) (m .es)) (listBehind t a)))
         turned-to =
             m .same
-            ∙ ap (λ (l : List ℕ). passesAt t a (matching l (entriesOf t n) (listAt t guard))) (stacked-top terms current k ∙ ap (λ (x : ℕ). x ∷ stacked (terms - 1) current) (sym top))
-            ∙ passes-turn t a lo d (stacked (terms - 1) current) (entriesOf t n) (listAt t guard) w
+            ∙ ap (λ (l : List ℕ). passesAt t a (matching l (m .es) (m .g))) (stacked-top terms current k ∙ ap (λ (x : ℕ). x ∷ stacked (terms - 1) current) (sym top))
+            ∙ passes-turn t a lo d (stacked (terms - 1) current) (m .es) (m .g) w
             ∙ rw (stacked-length (terms - 1) current)
 
         pub top-low : d ≤ 63
         top-low = rw top (m .low .low (terms - 1))
 
-        pub matched-refused : {r : Turned} (v : Refusal) → r ≡ turnAt t a d (terms - 1) (entriesOf t n) → r ≡ turned.Refused v → Refused DoesNotPass ≡ verdict (passesAt t 0 (matching (0 ∷ []) [] []))
-        matched-refused v q e = rw (turned-to, sym q, e)
+        -- what the function gave is what 01's state asks for
+        real : {r : Turned} → r ≡ turnAt t a d (terms - 1) (entriesOf n) → r ≡ turnAt t a d (terms - 1) (m .es)
+        real q = q ∙ ap (turnAt t a d (terms - 1)) (m .held) ∙ turn-told t a d (terms - 1) (m .es)
 
-        module _ {r : Turned} {p c b : ℕ} (q : r ≡ turnAt t a d (terms - 1) (entriesOf t n)) (e : r ≡ turned.To p c b) where
-          pub ranged : Ranged t a (terms - 1) (entriesOf t n) p c b
-          ranged = let u = m .many in turn-range d lo w (omega arith) top-low (sym e ∙ q)
+        pub matched-refused : {r : Turned} (v : Refusal) → r ≡ turnAt t a d (terms - 1) (entriesOf n) → r ≡ turned.Refused v → Refused DoesNotPass ≡ verdict (passesAt t 0 (matching (0 ∷ []) [] []))
+        matched-refused v q e = rw (turned-to, sym (real q), e)
+
+        module _ {r : Turned} {p c b : ℕ} (q : r ≡ turnAt t a d (terms - 1) (entriesOf n)) (e : r ≡ turned.To p c b) where
+          pub ranged : Ranged t a (terms - 1) (m .es) p c b
+          ranged = let u = m .many in turn-range d lo w (omega arith) top-low (sym e ∙ real q)
+
+          pub listing : Listing t a
+          listing = turn-listing t a lo d (terms - 1) (m .es) p c b top-low (sym e ∙ real q)
 
           fits : terms - 1 + c ≤ length current
           fits = let u = ranged .current in let v = m .whole-current in omega arith
 
           pub room : getD t a 0 ≡ 4 → n .count < 16
-          room o = let u = ranged .entries o in let v = entries-length t n in omega arith
+          room o =
+              let u = ranged .entries o in
+              let v = entries-length n in
+              let x : length (entriesOf n) ≡ length (m .es) = ap (λ (l : List Slot). length l) (m .held) ∙ length-told (m .es) in
+              omega arith
 
           module _ {new : List ℕ} (put : new ≡ replaced current (terms - 1) c b) where
             after : passesAt t 0 (matching (0 ∷ []) [] [])
-                ≡ passesAt t p (matching (stacked (terms - 1 + c) new) (entriesPut (getD t a 0) d (listAt t guard) (entriesOf t n)) (listAt t (guardPut (getD t a 0) a)))
-            after = turned-to ∙ rw (sym q, e, put, stacked-replaced current (terms - 1) c b fits)
+                ≡ passesAt t p (matching (stacked (terms - 1 + c) new) (entriesPut (getD t a 0) d (m .g) (m .es)) (listBehind t a))
+            after = turned-to ∙ rw (sym (real q), e, put, stacked-replaced current (terms - 1) c b fits)
 
             new-length : length new ≡ 256
             new-length = rw put (length-replaced current (terms - 1) c b fits ∙ m .whole-current)
@@ -351,36 +372,42 @@ module _ {t current : List ℕ} {terms : ℕ} {n : Entries} {guard a : ℕ} (m :
             new-low = rw put (low-replaced (terms - 1) c (m .low) (ranged .depth))
 
             -- an instruction but SET
-            pub matched-next : (g : ℕ) → (getD t a 0 ≡ 4 → ⊥) → g ≡ guardPut (getD t a 0) a → Matched t new (terms - 1 + c) n g p
-            matched-next g o u = record {
-              same = after ∙ rw (ne-eqb (getD t a 0) 4 o, u);
+            pub matched-next : (u : ℕ) → (getD t a 0 ≡ 4 → ⊥) → u ≡ gathered 0 (listBehind t a) → Matched t new (terms - 1 + c) n u p
+            matched-next u o v = record {
+              es = m .es;
+              g = listBehind t a;
+              same = after ∙ rw (ne-eqb (getD t a 0) 4 o);
+              held = m .held;
+              guarded = v;
               many = ranged .current;
               whole-current = new-length;
               low = new-low;
               sound = m .sound;
               whole-depths = m .whole-depths;
               whole-guards = m .whole-guards;
-              listed = rw u (turn-small t a lo d (terms - 1) (entriesOf t n) p c b top-low (sym e ∙ q));
               within = ranged .within;
             }
 
             -- SET
             module _ (o : getD t a 0 ≡ 4) where
               pub matched-set : Matched t new (terms - 1 + c) (record { count = n .count + 1; depths = set (n .depths) (n .count) d; guards = set (n .guards) (n .count) guard }) 0 p
-              unfolding guardPut
+              unfolding listBehind gathered
               matched-set =
                   let u = room o in
                   let x = m .whole-depths in
                   let y = m .whole-guards in
                   record {
-                    same = after ∙ rw (o, slots-more t (n .count) (n .depths) (n .guards) d guard (omega arith) (omega arith));
+                    es = slot d (m .g) ∷ m .es;
+                    g = [];
+                    same = after ∙ rw o;
+                    held = slots-more (n .count) (n .depths) (n .guards) d guard (omega arith) (omega arith) ∙ rw (m .held, m .guarded);
+                    guarded = refl;
                     many = ranged .current;
                     whole-current = new-length;
                     low = new-low;
-                    sound = record { few = omega arith; depths = low-set (n .count) (m .sound .depths) top-low; guards = small-set (n .count) guard (m .sound .guards) (m .listed) };
+                    sound = record { few = omega arith; depths = low-set (n .count) (m .sound .depths) top-low };
                     whole-depths = length-set (n .depths) (n .count) d ∙ x;
                     whole-guards = length-set (n .guards) (n .count) guard ∙ y;
-                    listed = no-guard t;
                     within = ranged .within;
                   }
 

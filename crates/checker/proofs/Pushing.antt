@@ -2,31 +2,32 @@
 use mathlib.Core.Path.{_≡_, refl, sym, ap, _∙_}
 use Prim.Native.Nat.{ℕ, suc, _+_, _-_, _≤_, _<_}
 use native.Mathlib.Omega.{arith}
-use mathlib.Core.Bool.{Bool, true, false, _&&_, cond, and-false}
+use mathlib.Core.Bool.{Bool, true, false, not, _&&_, cond, and-false}
 use mathlib.Core.Option.{Option, none, some}
 use mathlib.Core.List.{List, [], _∷_}
 use lib.Dec.{eqb, leb, ltb}
 use lib.ListN.{length, getD, getElem?, drop}
-use borrow.Author.Tests.{eq-eqb, ne-eqb, le-leb, lt-leb}
+use borrow.Author.Tests.{eq-eqb, ne-eqb, le-leb, lt-leb, lt-ltb, le-ltb, ltb-true, ltb-false}
+use Rattle.documents.specs.declared.Refusal.{Refusal}
 use Rattle.documents.specs.declared.Refusal.the-variants.{DoesNotPass}
 use Rattle.documents.specs.Lists.{need, andThen}
 use Rattle.documents.specs.Instructions.{PUSHI, Program, Bodies, ReadBodies, wholeBodies, bodyCount, keys, bodyThen}
 use Rattle.documents.specs.Passing.{Slot, slot, withSlot, covers, allBelow, oneTerm, build}
-use Rattle.documents.proofs.Lists.{never, case, and-true, and-assoc}
+use Rattle.documents.proofs.Lists.{never, case, and-true, and-assoc, on, off}
 use Rattle.instructions.specs.declared.Place.{Place}
 use Rattle.instructions.specs.declared.Place.the-variants as place
 use Rattle.instructions.specs.Places.{programAt, bodiesAt, placeIf}
 use Rattle.instructions.proofs.Reading.{bodies-left, bodies-count, bodies-done, bodies-short, bodies-step, program-push}
 use Rattle.indices.specs.Sets.{inserted, gathered, full}
-use Rattle.indices.proofs.Covers.{covers-full}
+use Rattle.indices.proofs.Covers.{covers-members}
 use Rattle.turns.specs.declared.entries.Entries.{Entries}
 use Rattle.turns.specs.declared.entries.Found.the-variants as found
-use Rattle.turns.specs.Held.{listAt, entriesOf, foundIn}
+use Rattle.turns.specs.Held.{entriesOf, foundIn}
 use Rattle.turns.specs.Turns.{isThere}
-use Rattle.turns.proofs.Entered.{found-none, found-slot}
+use Rattle.turns.proofs.Entered.{found-missing, found-entry, found-none, found-slot}
 use Rattle.turns.proofs.Turning.{slotTest}
-use Rattle.checker.specs.Built.{placeBehind, bodiesObey, pushObeys, makesOne}
-use Rattle.checker.proofs.Making.{goesOn, makes-none, makes-before}
+use Rattle.checker.specs.Built.{placeBehind, bodiesObey, pushObeys, entryObeys, makesOne}
+use Rattle.checker.proofs.Making.{goesOn, makes-none, makes-before, makes-pushimm}
 
 -- ---- bodies, one after the other
 
@@ -116,35 +117,34 @@ module _ (t : List ℕ) (a e : ℕ) (es : List Slot) (l nest : ℕ) where
       ap isThere (push-build es false l nest l nest (getD t a 0) (getD t (a + 1) 0) o 0 [] (omega arith) (omega arith))
       ∙ there-if (slotTest (getElem? es (getD t a 0)) (pushTest es (getD t (a + 1) 0) l nest o)) (1 ∷ []))
 
+pub push-absent : (t : List ℕ) (a e : ℕ) (es : List Slot) (l nest : ℕ) → getElem? es (getD t a 0) ≡ none → pushObeys t a e es l nest ≡ place.Refused DoesNotPass
+push-absent t a e es l nest f = push-is t a e es l nest ∙ behind-never (bodiesAt t (a + 3) e (getD t (a + 2) 0)) e _ (λ o m r. rw f)
+
 module _ (t : List ℕ) (a e : ℕ) (n : Entries) (l nest : ℕ) where
-  pub push-missing : foundIn n (getD t a 0) ≡ found.Missing → place.Refused DoesNotPass ≡ pushObeys t a e (entriesOf t n) l nest
-  push-missing f = sym (push-is t a e (entriesOf t n) l nest ∙ behind-never (bodiesAt t (a + 3) e (getD t (a + 2) 0)) e _ (λ o m r. rw (found-none n (getD t a 0) t f)))
-
   module _ (b g : ℕ) (f : foundIn n (getD t a 0) ≡ found.Entry b g) where
-    pub push-other : (getD t (a + 1) 0 + b ≡ l + 64 → ⊥) → place.Refused DoesNotPass ≡ pushObeys t a e (entriesOf t n) l nest
-    push-other q = sym (push-is t a e (entriesOf t n) l nest ∙ behind-never (bodiesAt t (a + 3) e (getD t (a + 2) 0)) e _
-        (λ o m r. rw (found-slot n (getD t a 0) b g f t, ne-eqb (getD t (a + 1) 0 + b) (l + 64) q)))
+    pub push-other : (getD t (a + 1) 0 + b ≡ l + 64 → ⊥) → place.Refused DoesNotPass ≡ pushObeys t a e (entriesOf n) l nest
+    push-other q = sym (push-is t a e (entriesOf n) l nest ∙ behind-never (bodiesAt t (a + 3) e (getD t (a + 2) 0)) e _
+        (λ o m r. rw (found-slot n (getD t a 0) b g f, ne-eqb (getD t (a + 1) 0 + b) (l + 64) q)))
 
-    pub push-many : 8 < getD t (a + 2) 0 → place.Refused DoesNotPass ≡ pushObeys t a e (entriesOf t n) l nest
-    push-many h = sym (push-is t a e (entriesOf t n) l nest ∙ behind-never (bodiesAt t (a + 3) e (getD t (a + 2) 0)) e _
+    pub push-many : 8 < getD t (a + 2) 0 → place.Refused DoesNotPass ≡ pushObeys t a e (entriesOf n) l nest
+    push-many h = sym (push-is t a e (entriesOf n) l nest ∙ behind-never (bodiesAt t (a + 3) e (getD t (a + 2) 0)) e _
         (λ o m r.
         let c = bodies-count (drop (a + 3) t) 0 (e - (a + 3)) (getD t (a + 2) 0) o m r in
-        rw (found-slot n (getD t a 0) b g f t, c, lt-leb (getD t (a + 2) 0) 8 h, and-false (eqb (getD t (a + 1) 0 + b) (l + 64)))))
+        rw (found-slot n (getD t a 0) b g f, c, lt-leb (getD t (a + 2) 0) 8 h, and-false (eqb (getD t (a + 1) 0 + b) (l + 64)))))
 
-    pub push-bodies : (m : ℕ) → getD t (a + 1) 0 + b ≡ l + 64 → getD t (a + 2) 0 ≤ 8 → m ≡ gathered 0 (listAt t g)
-        → bodiesObey t (a + 3) e (getD t (a + 2) 0) (entriesOf t n) l nest b m ≡ pushObeys t a e (entriesOf t n) l nest
+    pub push-bodies : getD t (a + 1) 0 + b ≡ l + 64 → getD t (a + 2) 0 ≤ 8
+        → bodiesObey t (a + 3) e (getD t (a + 2) 0) (entriesOf n) l nest b g ≡ pushObeys t a e (entriesOf n) l nest
     unfolding bodiesObey
-    push-bodies m q h u = sym (push-is t a e (entriesOf t n) l nest ∙ behind-same (bodiesAt t (a + 3) e (getD t (a + 2) 0)) e _ _
+    push-bodies q h = sym (push-is t a e (entriesOf n) l nest ∙ behind-same (bodiesAt t (a + 3) e (getD t (a + 2) 0)) e _ _
         (λ o j r.
         let c = bodies-count (drop (a + 3) t) 0 (e - (a + 3)) (getD t (a + 2) 0) o j r in
         rw (
-          found-slot n (getD t a 0) b g f t,
+          found-slot n (getD t a 0) b g f,
           c,
           le-leb (getD t (a + 2) 0) 8 h,
           eq-eqb (getD t (a + 1) 0 + b) (l + 64) q,
-          covers-full b (listAt t g) (keys o),
-          u,
-          and-assoc (allBelow b (keys o)) (full (gathered (gathered 0 (listAt t g)) (keys o)) b) (build (entriesOf t n) true l nest o),
+          covers-members b g (keys o),
+          and-assoc (allBelow b (keys o)) (full (gathered g (keys o)) b) (build (entriesOf n) true l nest o),
         )))
 
 -- ---- where it ends, and what it makes
@@ -188,3 +188,62 @@ module _ (t : List ℕ) (a e : ℕ) (es : List Slot) (inside : Bool) (l nest L N
           makes-before t e es inside l nest a (e - m) (PUSHI (getD t (a + 1) 0) (getD t (a + 2) 0) b) (h ∷ hs) (program-push t a e (omega arith) hi lo o ∙ rw r)
           ∙ ap (λ (k : Option (List ℕ)). goesOn k (makesOne t e es inside l nest (e - m))) (push-build es inside l nest L N (getD t (a + 1) 0) (getD t (a + 2) 0) b h hs p q)
           ∙ step (slotTest (getElem? es (getD t (a + 1) 0)) (pushTest es (getD t (a + 2) 0) L N b)) m
+
+-- ---- PUSHIMM
+
+module _ (t : List ℕ) (a e : ℕ) (es : List Slot) (inside : Bool) (l nest L h : ℕ) (hs : List ℕ) (lo : a < e) (hi : e ≤ length t) where
+  pub makes-whole : (n b : ℕ) (g : List ℕ) → getD t a 0 ≡ 12 → n ≡ a + 1 + 1 → n ≤ e → l + length hs ≡ L → getElem? es (getD t (a + 1) 0) ≡ some (slot b g)
+      → makesOne t e es inside l nest a (h ∷ hs) ≡ placeOn (placeIf (not inside && eqb L b) n) (λ p. makesOne t e es inside l nest p ((h + 1) ∷ hs))
+  makes-whole n b g o f k p s =
+      let z : suc (length hs) - 1 ≡ length hs = omega arith in
+      makes-pushimm t e es inside l nest a lo hi h hs o f k ∙ rw (s, z, p) (go inside (eqb L b))
+    where
+      go : (x y : Bool) → goesOn (need (not x) (need y (some ((h + 1) ∷ hs)))) (makesOne t e es inside l nest n) ≡ placeOn (placeIf (not x && y) n) (λ p. makesOne t e es inside l nest p ((h + 1) ∷ hs))
+      go true y = refl
+      go false true = refl
+      go false false = refl
+
+-- ---- either, by the opcode before its operands
+
+module _ (t : List ℕ) (a e : ℕ) (es : List Slot) (l nest b : ℕ) where
+  pub entry-whole : (r : Place) → getD t (a - 1) 0 ≡ 12 → r ≡ placeIf (not (ltb l nest) && eqb l b) (a + 1) → r ≡ entryObeys t a e es l nest b
+  unfolding entryObeys
+  entry-whole r o q = q ∙ rw (eq-eqb (getD t (a - 1) 0) 12 o)
+
+  pub entry-push : (r : Place) → (getD t (a - 1) 0 ≡ 12 → ⊥) → r ≡ pushObeys t a e es l nest → r ≡ entryObeys t a e es l nest b
+  unfolding entryObeys
+  entry-push r o q = q ∙ rw (ne-eqb (getD t (a - 1) 0) 12 o)
+
+-- in a body; another depth; the entry as it is
+pub whole-inside : (l nest b p : ℕ) → l < nest → place.Refused DoesNotPass ≡ placeIf (not (ltb l nest) && eqb l b) p
+whole-inside l nest b p h = rw (lt-ltb l nest h)
+
+pub whole-other : (l nest b p : ℕ) → nest ≤ l → (l ≡ b → ⊥) → place.Refused DoesNotPass ≡ placeIf (not (ltb l nest) && eqb l b) p
+whole-other l nest b p h n = rw (le-ltb l nest h, ne-eqb l b n)
+
+pub whole-there : (l nest b p : ℕ) → nest ≤ l → l ≡ b → place.At p ≡ placeIf (not (ltb l nest) && eqb l b) p
+whole-there l nest b p h n = rw (le-ltb l nest h, eq-eqb l b n)
+
+pub entry-place : (x c : ℕ) → x < c → place.At (c - 1 - x) ≡ placeIf (ltb x c) (c - 1 - x)
+entry-place x c h = rw (lt-ltb x c h)
+
+pub entry-missing : (x c : ℕ) → c ≤ x → place.Refused DoesNotPass ≡ placeIf (ltb x c) (c - 1 - x)
+entry-missing x c h = rw (le-ltb x c h)
+
+-- what the place of an entry says
+module _ (n : Entries) (x : ℕ) where
+  pub entry-found : (i : ℕ) → placeIf (ltb x (n .count)) (n .count - 1 - x) ≡ place.At i
+      → (i < n .count) × (foundIn n x ≡ found.Entry (getD (n .depths) i 0) (getD (n .guards) i 0))
+  entry-found i e =
+      case (λ q. placeIf q (n .count - 1 - x) ≡ place.At i → (i < n .count) × (foundIn n x ≡ found.Entry (getD (n .depths) i 0) (getD (n .guards) i 0)))
+      (ltb x (n .count))
+      (λ y p.
+      let h = ltb-true x (n .count) (on _ y) in
+      let z : n .count - 1 - x ≡ i = cc in
+      (omega arith, sym (found-entry n x h) ∙ rw z))
+      (λ y p. never (cc)) e
+
+  pub entry-absent : (w : Refusal) → placeIf (ltb x (n .count)) (n .count - 1 - x) ≡ place.Refused w → getElem? (entriesOf n) x ≡ none
+  entry-absent w e =
+      case (λ q. placeIf q (n .count - 1 - x) ≡ place.Refused w → getElem? (entriesOf n) x ≡ none) (ltb x (n .count))
+      (λ y p. never (cc)) (λ y p. found-none n x (sym (found-missing n x (ltb-false x (n .count) (off _ y))))) e

@@ -1,10 +1,10 @@
 -- The build part (document 01, 'When code passes').
 use mathlib.Core.Path.{_≡_}
 use Prim.Native.Nat.{ℕ, _+_, _-_, _≤_, _<_}
-use mathlib.Core.Bool.{Bool, true, false, _&&_, cond}
+use mathlib.Core.Bool.{Bool, true, false, not, _&&_, cond}
 use mathlib.Core.Option.{Option, none, some}
 use mathlib.Core.List.{List, [], _∷_}
-use lib.Dec.{eqb}
+use lib.Dec.{eqb, ltb}
 use lib.ListN.{length, getD}
 use Rattle.documents.specs.declared.Refusal.the-variants.{DoesNotPass}
 use Rattle.documents.specs.Lists.{andThen}
@@ -27,15 +27,13 @@ termsOf (some []) = terms.Refused DoesNotPass
 termsOf (some (h ∷ [])) = terms.Of h
 termsOf (some (h ∷ h₀ ∷ hs)) = terms.Refused DoesNotPass
 
--- the instruction at place a, if it is a CELL, PUSHVAR or PUSHIMM
-unfoldable pub termsAt : List ℕ → ℕ → List Slot → Bool → ℕ → ℕ → Terms
-termsAt t a es inside l h =
+-- the instruction at place a, if it is a CELL or PUSHVAR; neither asks for an entry
+unfoldable pub termsAt : List ℕ → ℕ → ℕ → ℕ → Terms
+termsAt t a l h =
     let w = getD t a 0 in
     let x = getD t (a + 1) 0 in
-    cond (eqb w opCELL) (termsOf (build es inside l 0 (CELL x (getD t (a + 2) 0)) (h ∷ [])))
-    (cond (eqb w opPUSHVAR) (termsOf (build es inside l 0 (PUSHVAR x) (h ∷ [])))
-    (cond (eqb w opPUSHIMM) (termsOf (build es inside l 0 (PUSHIMM x) (h ∷ [])))
-    (terms.Refused DoesNotPass)))
+    cond (eqb w opCELL) (termsOf (build [] false l 0 (CELL x (getD t (a + 2) 0)) (h ∷ [])))
+    (cond (eqb w opPUSHVAR) (termsOf (build [] false l 0 (PUSHVAR x) (h ∷ []))) (terms.Refused DoesNotPass))
 
 abbrev pub placeBehind : Option ReadBodies → ℕ → (Bodies → Bool) → Place
 placeBehind none e f = place.Refused DoesNotPass
@@ -49,6 +47,14 @@ bodiesObey t a e c es l nest b m = placeBehind (bodiesAt t a e c) e (λ o. allBe
 unfoldable pub pushObeys : List ℕ → ℕ → ℕ → List Slot → ℕ → ℕ → Place
 pushObeys t a e es l nest =
     placeBehind (bodiesAt t (a + 3) e (getD t (a + 2) 0)) e (λ o. isThere (build es false l nest (PUSHI (getD t a 0) (getD t (a + 1) 0) o) (0 ∷ [])))
+
+-- the operands of a PUSHIMM, or else of a PUSHI, stand before e
+abbrev pub Operands : List ℕ → ℕ → ℕ → Type 0
+Operands t a e = (getD t (a - 1) 0 ≡ opPUSHIMM → ⊥) → a + 3 ≤ e
+
+-- A PUSHIMM or PUSHI whose operands begin at place a; b is its entry's depth. More blocks and bodies than LAMBDAs: in a body.
+unfoldable pub entryObeys : List ℕ → ℕ → ℕ → List Slot → ℕ → ℕ → ℕ → Place
+entryObeys t a e es l nest b = cond (eqb (getD t (a - 1) 0) opPUSHIMM) (placeIf (not (ltb l nest) && eqb l b) (a + 1)) (pushObeys t a e es l nest)
 
 -- Whether the instructions from place a to e, after hs, make one term. l and nest: where the body, or the whole, began.
 abbrev pub makesOne : List ℕ → ℕ → List Slot → Bool → ℕ → ℕ → ℕ → List ℕ → Bool

@@ -17,20 +17,18 @@ use instructions::limit::MOST_PAIRS;
 use tables::compare::D_SHIFT;
 use tables::node::MOST_ARGUMENTS;
 use turns::entries::Entries;
-use turns::entries::Found;
-use turns::entries::find;
-use turns::entries::has_depth;
-use turns::entries::listed;
 ghost use mathlib.Core.Path.{_≡_};
 ghost use mathlib.Core.List.{[], _∷_};
-ghost use mathlib.Core.Bool.{_&&_, false};
-ghost use Prim.Native.Nat.{_+_, _≤_};
+ghost use mathlib.Core.Bool.{_&&_, not, false};
+ghost use Prim.Native.Nat.{_+_, _-_, _≤_};
 ghost use lib.Dec.{eqb, ltb};
 ghost use lib.ListN.{length, getD};
 ghost use Rattle.documents.specs.Instructions.{CELL, fixedAfter};
 ghost use Rattle.documents.specs.Passing.{build};
-ghost use Rattle.turns.specs.Held.{entriesOf, Sound};
-ghost use Rattle.checker.specs.Built.{termsOf, termsAt, endedIf, bodiesObey, pushObeys, Ends};
+ghost use Rattle.instructions.specs.Places.{placeIf};
+ghost use Rattle.turns.specs.declared.entries.Found.the-variants.{Entry};
+ghost use Rattle.turns.specs.Held.{entriesOf, Sound, foundIn};
+ghost use Rattle.checker.specs.Built.{termsOf, termsAt, endedIf, bodiesObey, Operands, entryObeys, Ends};
 
 // How instructions ended that made one term: at an ADBMAL, with the place behind it, or with their words.
 pub enum Ended {
@@ -44,18 +42,11 @@ pub enum Terms {
     Refused(Refusal),
 }
 
-// Instructions from a place on: a block to its ADBMAL; a body, or the whole, to its end.
-pub fn build(
-    code: &[u32],
-    from: usize,
-    end: usize,
-    entries: Entries,
-    l: u32,
-    nest: u32,
-    inside: bool,
-) -> Ended
-    requires { ⌜ (from ≤ end) × (end ≤ length (now code)) × (length (now code) ≤ 4096) × (l ≤ 63) × (nest ≤ 64) × Sound (now code) entries ⌝ }
-    ensures { λ r. ⌜ Ends (now (code .entry)) from end (entriesOf (now (code .entry)) entries) l nest inside r ⌝ }
+// Instructions from a place on: a block to its ADBMAL; a body, or the whole, to its end. l LAMBDAs are open, nest blocks and bodies; each LAMBDA is a
+// block, so l < nest in a body and nowhere else. An entry is looked up here, since a function that looks one up keeps a copy of all sixteen.
+pub fn build(code: &[u32], from: usize, end: usize, entries: Entries, l: u32, nest: u32) -> Ended
+    requires { ⌜ (from ≤ end) × (end ≤ length (now code)) × (length (now code) ≤ 4096) × (l ≤ 63) × (nest ≤ 64) × (l ≤ nest) × Sound entries ⌝ }
+    ensures { λ r. ⌜ Ends (now (code .entry)) from end (entriesOf entries) l nest (ltb l nest) r ⌝ }
 {
     let mut at = from;
     let mut terms: usize = 0;
@@ -71,19 +62,24 @@ pub fn build(
             if !may_open(l, nest) {
                 return Ended::Refused(Refusal::DoesNotPass);
             }
-            let Ended::Shut(after) = build(code, next, end, entries, l + 1, nest + 1, inside) else {
+            let Ended::Shut(after) = build(code, next, end, entries, l + 1, nest + 1) else {
                 return Ended::Refused(Refusal::DoesNotPass);
             };
             at = after;
             terms += 1;
-        } else if op == PUSHI {
-            let Place::At(after) = push(code, at + 1, end, entries, l, nest) else {
+        } else if PUSHVAR < op {
+            let Place::At(i) = entry_at(entries.count, code[at + 1]) else {
+                return Ended::Refused(Refusal::DoesNotPass);
+            };
+            let b = entries.depths[i] as u32;
+            let Place::At(after) = push(code, at + 1, end, entries, l, nest, b, entries.guards[i])
+            else {
                 return Ended::Refused(Refusal::DoesNotPass);
             };
             at = after;
             terms += 1;
         } else {
-            let Terms::Of(now) = plain(code, at, entries, l, inside, terms) else {
+            let Terms::Of(now) = plain(code, at, l, terms) else {
                 return Ended::Refused(Refusal::DoesNotPass);
             };
             at = next;
@@ -112,28 +108,29 @@ fn may_open(l: u32, nest: u32) -> bool
     nest < MOST_NESTED
 }
 
-// The terms after a CELL, PUSHVAR or PUSHIMM.
-fn plain(code: &[u32], at: usize, entries: Entries, l: u32, inside: bool, terms: usize) -> Terms
-    requires { ⌜ (at + 1 + fixedAfter (getD (now code) at 0) ≤ length (now code)) × (terms ≤ 4096) × Sound (now code) entries ⌝ }
-    ensures { λ r. ⌜ r ≡ termsAt (now (code .entry)) at (entriesOf (now (code .entry)) entries) inside l terms ⌝ }
+// Where an entry stands, counted from the newest.
+fn entry_at(count: usize, x: u32) -> Place
+    ensures { λ r. ⌜ r ≡ placeIf (ltb x count) (count - 1 - x) ⌝ }
+{
+    if count <= x as usize {
+        return Place::Refused(Refusal::DoesNotPass);
+    }
+    Place::At(count - 1 - x as usize)
+}
+
+// The terms after a CELL or PUSHVAR.
+fn plain(code: &[u32], at: usize, l: u32, terms: usize) -> Terms
+    requires { ⌜ (at + 1 + fixedAfter (getD (now code) at 0) ≤ length (now code)) × (terms ≤ 4096) ⌝ }
+    ensures { λ r. ⌜ r ≡ termsAt (now (code .entry)) at l terms ⌝ }
 {
     let op = code[at];
     if op == CELL {
         return cell(code[at + 1], code[at + 2], terms);
     }
-    if op == PUSHVAR {
-        if l <= code[at + 1] {
-            return Terms::Refused(Refusal::DoesNotPass);
-        }
-        return Terms::Of(terms + 1);
-    }
-    if op != PUSHIMM {
+    if op != PUSHVAR {
         return Terms::Refused(Refusal::DoesNotPass);
     }
-    if inside {
-        return Terms::Refused(Refusal::DoesNotPass);
-    }
-    if !has_depth(entries, code[at + 1], l) {
+    if l <= code[at + 1] {
         return Terms::Refused(Refusal::DoesNotPass);
     }
     Terms::Of(terms + 1)
@@ -155,14 +152,23 @@ fn cell(name: u32, count: u32, terms: usize) -> Terms
     Terms::Of(terms - count as usize + 1)
 }
 
-// A PUSHI whose operands begin at a place.
-fn push(code: &[u32], from: usize, end: usize, entries: Entries, l: u32, nest: u32) -> Place
-    requires { ⌜ (from + 3 ≤ end) × (end ≤ length (now code)) × (length (now code) ≤ 4096) × (l ≤ 63) × (nest ≤ 64) × Sound (now code) entries ⌝ }
-    ensures { λ r. ⌜ r ≡ pushObeys (now (code .entry)) from end (entriesOf (now (code .entry)) entries) l nest ⌝ }
+// A PUSHIMM or PUSHI of an entry with depth b, the operands from a place on.
+fn push(
+    code: &[u32],
+    from: usize,
+    end: usize,
+    entries: Entries,
+    l: u32,
+    nest: u32,
+    b: u32,
+    guard: u64,
+) -> Place
+    requires { ⌜ (1 ≤ from) × (from ≤ end) × Operands (now code) from end × (end ≤ length (now code)) × (length (now code) ≤ 4096) × (l ≤ 63) × (nest ≤ 64) × (l ≤ nest) × (foundIn entries (getD (now code) from 0) ≡ Entry b guard) × Sound entries ⌝ }
+    ensures { λ r. ⌜ r ≡ entryObeys (now (code .entry)) from end (entriesOf entries) l nest b ⌝ }
 {
-    let Found::Entry(b, guard) = find(entries, code[from]) else {
-        return Place::Refused(Refusal::DoesNotPass);
-    };
+    if code[from - 1] == PUSHIMM {
+        return push_whole(from + 1, l, nest, b);
+    }
     if code[from + 1] != l + D_SHIFT - b {
         return Place::Refused(Refusal::DoesNotPass);
     }
@@ -170,8 +176,20 @@ fn push(code: &[u32], from: usize, end: usize, entries: Entries, l: u32, nest: u
     if MOST_PAIRS < count {
         return Place::Refused(Refusal::DoesNotPass);
     }
-    let set = listed(code, guard);
-    bodies(code, from + 3, end, entries, l, nest, b, count, set)
+    bodies(code, from + 3, end, entries, l, nest, b, count, guard)
+}
+
+// A PUSHIMM: the entry as it is, in no body.
+fn push_whole(next: usize, l: u32, nest: u32, b: u32) -> Place
+    ensures { λ r. ⌜ r ≡ placeIf (not (ltb l nest) && eqb l b) next ⌝ }
+{
+    if l < nest {
+        return Place::Refused(Refusal::DoesNotPass);
+    }
+    if l != b {
+        return Place::Refused(Refusal::DoesNotPass);
+    }
+    Place::At(next)
 }
 
 // So many bodies behind their keys, these below b; with the set they cover all below b.
@@ -186,8 +204,8 @@ fn bodies(
     count: u32,
     set: u64,
 ) -> Place
-    requires { ⌜ (from ≤ end) × (end ≤ length (now code)) × (length (now code) ≤ 4096) × (l ≤ 63) × (nest ≤ 64) × (b ≤ 63) × Sound (now code) entries ⌝ }
-    ensures { λ r. ⌜ r ≡ bodiesObey (now (code .entry)) from end count (entriesOf (now (code .entry)) entries) l nest b set ⌝ }
+    requires { ⌜ (from ≤ end) × (end ≤ length (now code)) × (length (now code) ≤ 4096) × (l ≤ 63) × (nest ≤ 64) × (l ≤ nest) × (b ≤ 63) × Sound entries ⌝ }
+    ensures { λ r. ⌜ r ≡ bodiesObey (now (code .entry)) from end count (entriesOf entries) l nest b set ⌝ }
 {
     let mut at = from;
     let mut left = count;
@@ -207,7 +225,7 @@ fn bodies(
         if MOST_NESTED <= nest {
             return Place::Refused(Refusal::DoesNotPass);
         }
-        let Ended::Done = build(code, at + 2, at + 2 + words, entries, l, nest + 1, true) else {
+        let Ended::Done = build(code, at + 2, at + 2 + words, entries, l, nest + 1) else {
             return Place::Refused(Refusal::DoesNotPass);
         };
         keys = insert(keys, key);

@@ -8,20 +8,24 @@ use documents::Refusal;
 use documents::op::CHECK;
 use documents::op::EQI;
 use documents::op::SET;
+use indices::gather;
 use instructions::limit::MOST_CURRENT;
 use instructions::limit::MOST_ENTRIES;
 use instructions::limit::MOST_WORDS;
 use turns::Turned;
 use turns::entries::Entries;
-use turns::entries::NO_GUARD;
 use turns::turn;
 ghost use mathlib.Core.Path.{_≡_};
 ghost use mathlib.Core.List.{[], _∷_};
 ghost use Prim.Native.Nat.{_<_, _≤_};
 ghost use lib.ListN.{length, getD, replicate};
 ghost use Rattle.documents.specs.Passing.{matching, passes};
+ghost use Rattle.indices.specs.Sets.{gathered};
 ghost use Rattle.turns.specs.Held.{entriesOf, Sound};
-ghost use Rattle.checker.specs.Matched.{passesAt, verdict, BuildsAt, guardPut};
+ghost use Rattle.checker.specs.Matched.{passesAt, verdict, BuildsAt, listBehind, Listing};
+
+// The guard where no CHECK stands directly before.
+const NO_INDEX: u64 = 0;
 
 pub enum Checked {
     Passes,
@@ -50,7 +54,7 @@ fn obeys(code: &[u32]) -> Checked
         depths: [0; MOST_ENTRIES],
         guards: [0; MOST_ENTRIES],
     };
-    let mut guard = NO_GUARD;
+    let mut guard: u64 = NO_INDEX;
     let mut at: usize = 0;
     while at < code.len() {
         let op = code[at];
@@ -71,25 +75,27 @@ fn obeys(code: &[u32]) -> Checked
             entries.depths[made] = d;
             entries.guards[made] = guard;
             entries.count = made + 1;
-            guard = NO_GUARD;
+            guard = NO_INDEX;
             at = next;
         } else {
-            guard = guard_of(op, at);
+            guard = guard_of(code, at);
             at = next;
         }
     }
     Checked::Refused(Refusal::DoesNotPass)
 }
 
-// The place of a CHECK's list, as the guard of a SET directly behind it.
-fn guard_of(op: u32, at: usize) -> u16
-    requires { ⌜ at < 4096 ⌝ }
-    ensures { λ r. ⌜ r ≡ guardPut op at ⌝ }
+// The indices that a CHECK lists, as the guard of a SET directly behind it.
+fn guard_of(code: &[u32], at: usize) -> u64
+    requires { ⌜ (at < length (now code)) × Listing (now code) at ⌝ }
+    ensures { λ r. ⌜ r ≡ gathered 0 (listBehind (now (code .entry)) at) ⌝ }
 {
-    if op == CHECK {
-        return (at + 1) as u16;
+    if code[at] != CHECK {
+        return NO_INDEX;
     }
-    NO_GUARD
+    let from = at + 2;
+    let end = from + code[at + 1] as usize;
+    gather(&code[from..end])
 }
 
 fn put(part: &mut [u8], depth: u8)
@@ -104,13 +110,13 @@ fn put(part: &mut [u8], depth: u8)
 
 // The build part.
 fn builds(code: &[u32], at: usize, terms: usize, entries: Entries) -> Checked
-    requires { ⌜ (at < length (now code)) × (length (now code) ≤ 4096) × (7 < getD (now code) at 0) × Sound (now code) entries ⌝ }
-    ensures { λ r. ⌜ BuildsAt (now (code .entry)) at terms (entriesOf (now (code .entry)) entries) r ⌝ }
+    requires { ⌜ (at < length (now code)) × (length (now code) ≤ 4096) × (7 < getD (now code) at 0) × Sound entries ⌝ }
+    ensures { λ r. ⌜ BuildsAt (now (code .entry)) at terms (entriesOf entries) r ⌝ }
 {
     if terms != 0 {
         return Checked::Refused(Refusal::DoesNotPass);
     }
-    let Ended::Done = build(code, at, code.len(), entries, 0, 0, false) else {
+    let Ended::Done = build(code, at, code.len(), entries, 0, 0) else {
         return Checked::Refused(Refusal::DoesNotPass);
     };
     Checked::Passes

@@ -11,11 +11,8 @@ use borrow.Author.Tests.{eq-eqb, ne-eqb, eqb-true, ltb-true, ltb-false}
 use Rattle.documents.specs.Lists.{every, member, upTo}
 use Rattle.documents.specs.Passing.{covers}
 use Rattle.documents.proofs.Lists.{never, on, off, case, and-true, every-append}
-use Rattle.indices.specs.Sets.{inserted, gathered, full}
-
--- index i is in set m
-abbrev pub has : ℕ → ℕ → Bool
-has m i = eqb (m / 2 ^ i % 2) 1
+use Rattle.kahrs.proofs.Places.{member-upTo, member-keep}
+use Rattle.indices.specs.Sets.{has, members, inserted, gathered, full}
 
 clash : {A : Type 0} {b : Bool} → b ≡ false → b ≡ true → A
 clash p q = let z : true ≡ false = sym q ∙ p in never (cc)
@@ -25,6 +22,18 @@ none-there i =
     let y : 0 * 2 ^ i ≡ 0 = omega arith in
     let z : 0 / 2 ^ i ≡ 0 = ap (λ (n : ℕ). n / 2 ^ i) (sym y) ∙ shl-shr 0 i in
     rw z
+
+small : (q p : ℕ) → q * p < p → q ≡ 0
+small zero p h = refl
+small (suc q) p h = absurd (omega arith)
+
+grows : (i : ℕ) → i < 2 ^ i
+grows zero = pow-pos 0
+grows (suc i) =
+    let h = grows i in
+    let e : 2 ^ (1 + i) ≡ 2 * 2 ^ i = pow-add 2 1 i in
+    let z : 1 + i ≡ suc i = omega arith in
+    rw (sym z) (omega arith)
 
 -- a power of two has one bit
 one-bit : (k i : ℕ) → has (2 ^ k) i ≡ eqb k i
@@ -58,10 +67,6 @@ one-bit k i =
         let s = split (2 ^ k) i in
         let q : 2 ^ k / 2 ^ i ≡ 0 = small (2 ^ k / 2 ^ i) (2 ^ i) (omega arith) in
         rw (q, ne-eqb k i n)
-      where
-        small : (q p : ℕ) → q * p < p → q ≡ 0
-        small zero p h = refl
-        small (suc q) p h = absurd (omega arith)
 
 or-bit : (m n i : ℕ) → has (bitOr m n) i ≡ has m i || has n i
 or-bit m n i = rw (or-shr m n i) (go (m / 2 ^ i) (n / 2 ^ i))
@@ -115,9 +120,34 @@ full-every m b = rw (and-mask m b) (go b)
         (digit (m / 2 ^ b % 2) (m % 2 ^ b) (2 ^ b) (omega arith) l
         ∙ rw (go b, every-append (has m) (upTo b) (b ∷ []), and-true (has m b)))
 
--- The guard's list and the keys cover all below b.
-pub covers-full : (b : ℕ) (g ks : List ℕ) → covers b g ks ≡ full (gathered (gathered 0 g) ks) b
-covers-full b g ks = sym (full-every (gathered (gathered 0 g) ks) b ∙ ap (λ (p : ℕ → Bool). every p (upTo b)) (fun-ext one))
+-- ---- the members of a set
+
+-- an index that is in a set is no higher than the number
+pub member-members : (m i : ℕ) → member (members m) i ≡ has m i
+unfolding members
+member-members m i =
+    rw (member-keep (has m) (upTo (suc m)) i, member-upTo (suc m) i)
+    (case (λ q. q && has m i ≡ has m i) (ltb i (suc m)) (λ y. refl)
+    (λ y. let h = ltb-false i (suc m) (off _ y) in sym (absent h)))
   where
-    one : (i : ℕ) → has (gathered (gathered 0 g) ks) i ≡ member g i || member ks i
-    one i = gather-bit ks (gathered 0 g) i ∙ rw (gather-bit g 0 i, none-there i)
+    absent : suc m ≤ i → has m i ≡ false
+    absent h =
+        let l = grows i in
+        let s = split m i in
+        let q : m / 2 ^ i ≡ 0 = small (m / 2 ^ i) (2 ^ i) (omega arith) in
+        rw q
+
+-- ---- covering
+
+pub covers-members : (b m : ℕ) (ks : List ℕ) → covers b (members m) ks ≡ full (gathered m ks) b
+covers-members b m ks = sym (full-every (gathered m ks) b ∙ ap (λ (p : ℕ → Bool). every p (upTo b)) (fun-ext one))
+  where
+    one : (i : ℕ) → has (gathered m ks) i ≡ member (members m) i || member ks i
+    one i = gather-bit ks m i ∙ rw (member-members m i)
+
+-- a list may be told by its set
+pub covers-gathered : (b : ℕ) (g ks : List ℕ) → covers b (members (gathered 0 g)) ks ≡ covers b g ks
+covers-gathered b g ks = ap (λ (p : ℕ → Bool). every p (upTo b)) (fun-ext one)
+  where
+    one : (i : ℕ) → member (members (gathered 0 g)) i || member ks i ≡ member g i || member ks i
+    one i = rw (member-members (gathered 0 g) i, gather-bit g 0 i, none-there i)

@@ -1,13 +1,22 @@
 -- Sets of indices below 64 as numbers: index i is in set m where the i-th bit of m is 1.
-use Prim.Native.Nat.{ℕ, _-_, _^_}
+use Prim.Native.Nat.{ℕ, suc, _-_, _/_, _%_, _^_}
 use mathlib.Core.Bool.{Bool, _&&_, cond}
 use mathlib.Core.List.{List, [], _∷_}
 use lib.Dec.{eqb}
 use lib.Bits.{bitAnd, bitOr}
+use Rattle.documents.specs.Lists.{keep, upTo}
 use Rattle.documents.specs.Machine.{firsts}
 use Rattle.documents.specs.Passing.{allBelow, seconds}
 use Rattle.indices.specs.declared.Indices.{Indices}
 use Rattle.indices.specs.declared.Indices.the-variants as indices
+
+-- index i is in it
+abbrev pub has : ℕ → ℕ → Bool
+has m i = eqb (m / 2 ^ i % 2) 1
+
+-- all that are in it; none is higher than the number itself
+unfoldable pub members : ℕ → List ℕ
+members m = keep (has m) (upTo (suc m))
 
 -- with one index more
 unfoldable pub inserted : ℕ → ℕ → ℕ

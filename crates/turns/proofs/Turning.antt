@@ -22,14 +22,14 @@ use Rattle.instructions.specs.Places.{readAt, placeIf, fetched}
 use Rattle.instructions.proofs.Reading.{unfetched, read-opcode, read-within, read-is, read-isabst, read-next, read-check, read-set, read-eqvar, read-eqimm, read-eqi}
 use Rattle.indices.specs.declared.Indices.{Indices}
 use Rattle.indices.specs.declared.Indices.the-variants as indices
-use Rattle.indices.specs.Sets.{gathered, full, firstsIn}
-use Rattle.indices.proofs.Covers.{covers-full}
+use Rattle.indices.specs.Sets.{members, gathered, full, firstsIn}
+use Rattle.indices.proofs.Covers.{covers-members}
 use Rattle.turns.specs.declared.Turned.{Turned}
 use Rattle.turns.specs.declared.entries.Entries.{Entries}
 use Rattle.turns.specs.declared.entries.Found.{Found}
 use Rattle.turns.specs.declared.Turned.the-variants as turned
 use Rattle.turns.specs.declared.entries.Found.the-variants as found
-use Rattle.turns.specs.Held.{listAt, entriesOf, foundIn, sameDepth}
+use Rattle.turns.specs.Held.{entriesOf, foundIn, sameDepth}
 use Rattle.turns.specs.Turns.{isThere, allowed, termsPut, depthPut, turnIf, turnBy, turnAt, stayed, StaysAt, checkAt, eqiAt}
 use Rattle.turns.proofs.Entered.{found-none, found-slot}
 
@@ -84,13 +84,13 @@ module _ (x d below : ℕ) (es : List Slot) where
       go none = refl
       go (some (slot b g)) = one (eqb d b) _
 
-pub same-depth : (t : List ℕ) (e : Entries) (x d : ℕ) → slotTest (getElem? (entriesOf t e) x) (λ b g. eqb d b) ≡ sameDepth (foundIn e x) d
+pub same-depth : (e : Entries) (x d : ℕ) → slotTest (getElem? (entriesOf e) x) (λ b g. eqb d b) ≡ sameDepth (foundIn e x) d
 unfolding sameDepth
-same-depth t e x d = go (foundIn e x) refl
+same-depth e x d = go (foundIn e x) refl
   where
-    go : (f : Found) → foundIn e x ≡ f → slotTest (getElem? (entriesOf t e) x) (λ b g. eqb d b) ≡ sameDepth f d
-    go found.Missing p = rw (found-none e x t p)
-    go (found.Entry b g) p = rw (found-slot e x b g p t)
+    go : (f : Found) → foundIn e x ≡ f → slotTest (getElem? (entriesOf e) x) (λ b g. eqb d b) ≡ sameDepth f d
+    go found.Missing p = rw (found-none e x p)
+    go (found.Entry b g) p = rw (found-slot e x b g p)
 
 -- ---- each below d
 
@@ -205,11 +205,11 @@ module _ (t : List ℕ) (a d : ℕ) (es : List Slot) where
 
 -- EQIMM, with the entries in arrays
 module _ (t : List ℕ) (a d : ℕ) (e : Entries) {n : ℕ} (o : getD t a 0 ≡ 6) (f : n ≡ a + 1 + 1) (h : n ≤ length t) where
-  pub stays-other : sameDepth (foundIn e (getD t (a + 1) 0)) d ≡ false → StaysAt t a d (entriesOf t e) (place.Refused DoesNotPass)
-  stays-other q = record { means = λ below. sym (eqimm-if t a d (entriesOf t e) below o f h ∙ rw (same-depth t e (getD t (a + 1) 0) d, q)) }
+  pub stays-other : sameDepth (foundIn e (getD t (a + 1) 0)) d ≡ false → StaysAt t a d (entriesOf e) (place.Refused DoesNotPass)
+  stays-other q = record { means = λ below. sym (eqimm-if t a d (entriesOf e) below o f h ∙ rw (same-depth e (getD t (a + 1) 0) d, q)) }
 
-  pub stays-eqimm : sameDepth (foundIn e (getD t (a + 1) 0)) d ≡ true → StaysAt t a d (entriesOf t e) (place.At n)
-  stays-eqimm q = record { means = λ below. sym (eqimm-if t a d (entriesOf t e) below o f h ∙ rw (same-depth t e (getD t (a + 1) 0) d, q)) }
+  pub stays-eqimm : sameDepth (foundIn e (getD t (a + 1) 0)) d ≡ true → StaysAt t a d (entriesOf e) (place.At n)
+  stays-eqimm q = record { means = λ below. sym (eqimm-if t a d (entriesOf e) below o f h ∙ rw (same-depth e (getD t (a + 1) 0) d, q)) }
 
 -- ---- the tests of an IS, in the code's order
 
@@ -273,47 +273,47 @@ filled-is true false s m b e = sym (and-false s)
 filled-is false r s m b e = refl
 
 module _ (t : List ℕ) (a d : ℕ) (e : Entries) where
-  eqi-test : eqiAt t a d (entriesOf t e)
-      ≡ placeIf (leb (a + 4 + 2 * getD t (a + 3) 0) (length t) && slotTest (getElem? (entriesOf t e) (getD t (a + 1) 0)) (eqiTest (getD t (a + 2) 0) (pairsIn (take (2 * getD t (a + 3) 0) (drop (a + 4) t))) d)) (a + 4 + 2 * getD t (a + 3) 0)
+  eqi-test : eqiAt t a d (entriesOf e)
+      ≡ placeIf (leb (a + 4 + 2 * getD t (a + 3) 0) (length t) && slotTest (getElem? (entriesOf e) (getD t (a + 1) 0)) (eqiTest (getD t (a + 2) 0) (pairsIn (take (2 * getD t (a + 3) 0) (drop (a + 4) t))) d)) (a + 4 + 2 * getD t (a + 3) 0)
   unfolding eqiAt
-  eqi-test = rw (allowed-eqi (getD t (a + 1) 0) d 0 (entriesOf t e) (getD t (a + 2) 0) (pairsIn (take (2 * getD t (a + 3) 0) (drop (a + 4) t))))
+  eqi-test = rw (allowed-eqi (getD t (a + 1) 0) d 0 (entriesOf e) (getD t (a + 2) 0) (pairsIn (take (2 * getD t (a + 3) 0) (drop (a + 4) t))))
 
-  pub eqi-missing : foundIn e (getD t (a + 1) 0) ≡ found.Missing → place.Refused DoesNotPass ≡ eqiAt t a d (entriesOf t e)
-  eqi-missing f = sym (eqi-test ∙ rw (found-none e (getD t (a + 1) 0) t f, and-false (leb (a + 4 + 2 * getD t (a + 3) 0) (length t))))
+  pub eqi-missing : foundIn e (getD t (a + 1) 0) ≡ found.Missing → place.Refused DoesNotPass ≡ eqiAt t a d (entriesOf e)
+  eqi-missing f = sym (eqi-test ∙ rw (found-none e (getD t (a + 1) 0) f, and-false (leb (a + 4 + 2 * getD t (a + 3) 0) (length t))))
 
   module _ (b g : ℕ) (f : foundIn e (getD t (a + 1) 0) ≡ found.Entry b g) where
-    eqi-found : eqiAt t a d (entriesOf t e)
-        ≡ placeIf (leb (a + 4 + 2 * getD t (a + 3) 0) (length t) && eqiTest (getD t (a + 2) 0) (pairsIn (take (2 * getD t (a + 3) 0) (drop (a + 4) t))) d b (listAt t g)) (a + 4 + 2 * getD t (a + 3) 0)
-    eqi-found = eqi-test ∙ rw (found-slot e (getD t (a + 1) 0) b g f t)
+    eqi-found : eqiAt t a d (entriesOf e)
+        ≡ placeIf (leb (a + 4 + 2 * getD t (a + 3) 0) (length t) && eqiTest (getD t (a + 2) 0) (pairsIn (take (2 * getD t (a + 3) 0) (drop (a + 4) t))) d b (members g)) (a + 4 + 2 * getD t (a + 3) 0)
+    eqi-found = eqi-test ∙ rw (found-slot e (getD t (a + 1) 0) b g f)
 
-    pub eqi-other : (getD t (a + 2) 0 + b ≡ d + 64 → ⊥) → place.Refused DoesNotPass ≡ eqiAt t a d (entriesOf t e)
+    pub eqi-other : (getD t (a + 2) 0 + b ≡ d + 64 → ⊥) → place.Refused DoesNotPass ≡ eqiAt t a d (entriesOf e)
     eqi-other q = sym (eqi-found ∙ rw (ne-eqb (getD t (a + 2) 0 + b) (d + 64) q, and-false (leb (a + 4 + 2 * getD t (a + 3) 0) (length t))))
 
     module _ (q : getD t (a + 2) 0 + b ≡ d + 64) where
-      pub eqi-past : length t < a + 4 + 2 * getD t (a + 3) 0 → place.Refused DoesNotPass ≡ eqiAt t a d (entriesOf t e)
+      pub eqi-past : length t < a + 4 + 2 * getD t (a + 3) 0 → place.Refused DoesNotPass ≡ eqiAt t a d (entriesOf e)
       eqi-past h = sym (eqi-found ∙ rw (lt-leb (a + 4 + 2 * getD t (a + 3) 0) (length t) h))
 
       listed-pairs : a + 4 + 2 * getD t (a + 3) 0 ≤ length t → length (pairsIn (take (2 * getD t (a + 3) 0) (drop (a + 4) t))) ≡ getD t (a + 3) 0
       listed-pairs h = pairs-length (getD t (a + 3) 0) (drop (a + 4) t) (rw (length-drop (a + 4) t) (omega arith))
 
-      pub eqi-many : 8 < getD t (a + 3) 0 → place.Refused DoesNotPass ≡ eqiAt t a d (entriesOf t e)
+      pub eqi-many : 8 < getD t (a + 3) 0 → place.Refused DoesNotPass ≡ eqiAt t a d (entriesOf e)
       eqi-many k =
-          case (λ p. place.Refused DoesNotPass ≡ eqiAt t a d (entriesOf t e)) (leb (a + 4 + 2 * getD t (a + 3) 0) (length t))
+          case (λ p. place.Refused DoesNotPass ≡ eqiAt t a d (entriesOf e)) (leb (a + 4 + 2 * getD t (a + 3) 0) (length t))
           (λ y.
           let h = leb-true (a + 4 + 2 * getD t (a + 3) 0) (length t) (on _ y) in
           sym (eqi-found ∙ rw (le-leb (a + 4 + 2 * getD t (a + 3) 0) (length t) h, eq-eqb (getD t (a + 2) 0 + b) (d + 64) q, listed-pairs h, lt-leb (getD t (a + 3) 0) 8 k)))
           (λ y. eqi-past (leb-false (a + 4 + 2 * getD t (a + 3) 0) (length t) (off _ y)))
 
-      pub eqi-sets : (s : Indices) (m : ℕ) → getD t (a + 3) 0 ≤ 8 → a + 4 + 2 * getD t (a + 3) 0 ≤ length t → m ≡ gathered 0 (listAt t g)
-          → s ≡ firstsIn (pairsIn (take (a + 4 + 2 * getD t (a + 3) 0 - (a + 4)) (drop (a + 4) t))) m b d
-          → placeIf (filled s b) (a + 4 + 2 * getD t (a + 3) 0) ≡ eqiAt t a d (entriesOf t e)
+      pub eqi-sets : (s : Indices) → getD t (a + 3) 0 ≤ 8 → a + 4 + 2 * getD t (a + 3) 0 ≤ length t
+          → s ≡ firstsIn (pairsIn (take (a + 4 + 2 * getD t (a + 3) 0 - (a + 4)) (drop (a + 4) t))) g b d
+          → placeIf (filled s b) (a + 4 + 2 * getD t (a + 3) 0) ≡ eqiAt t a d (entriesOf e)
       unfolding firstsIn
-      eqi-sets s m k h u v =
+      eqi-sets s k h v =
           let ps = pairsIn (take (2 * getD t (a + 3) 0) (drop (a + 4) t)) in
           let z : a + 4 + 2 * getD t (a + 3) 0 - (a + 4) ≡ 2 * getD t (a + 3) 0 = omega arith in
-          let v₁ : s ≡ firstsIn ps m b d = rw z at v in
-          let w = filled-is (allBelow b (firsts ps)) (allBelow d (seconds ps)) (covers b (listAt t g) (firsts ps)) (gathered m (firsts ps)) b
-          (covers-full b (listAt t g) (firsts ps) ∙ ap (λ (n : ℕ). full (gathered n (firsts ps)) b) (sym u)) in
+          let v₁ : s ≡ firstsIn ps g b d = rw z at v in
+          let w = filled-is (allBelow b (firsts ps)) (allBelow d (seconds ps)) (covers b (members g) (firsts ps)) (gathered g (firsts ps)) b
+          (covers-members b g (firsts ps)) in
           rw (v₁, w) (sym (eqi-found ∙ rw (
             le-leb (a + 4 + 2 * getD t (a + 3) 0) (length t) h,
             eq-eqb (getD t (a + 2) 0 + b) (d + 64) q,
@@ -321,16 +321,16 @@ module _ (t : List ℕ) (a d : ℕ) (e : Entries) where
             le-leb (getD t (a + 3) 0) 8 k,
           )))
 
-      module _ (s : Indices) (m : ℕ) (k : getD t (a + 3) 0 ≤ 8) (h : a + 4 + 2 * getD t (a + 3) 0 ≤ length t) (u : m ≡ gathered 0 (listAt t g))
-          (v : s ≡ firstsIn (pairsIn (take (a + 4 + 2 * getD t (a + 3) 0 - (a + 4)) (drop (a + 4) t))) m b d) where
-        pub eqi-high : s ≡ indices.Refused → place.Refused DoesNotPass ≡ eqiAt t a d (entriesOf t e)
-        eqi-high w = ap (λ (i : Indices). placeIf (filled i b) (a + 4 + 2 * getD t (a + 3) 0)) (sym w) ∙ eqi-sets s m k h u v
+      module _ (s : Indices) (k : getD t (a + 3) 0 ≤ 8) (h : a + 4 + 2 * getD t (a + 3) 0 ≤ length t)
+          (v : s ≡ firstsIn (pairsIn (take (a + 4 + 2 * getD t (a + 3) 0 - (a + 4)) (drop (a + 4) t))) g b d) where
+        pub eqi-high : s ≡ indices.Refused → place.Refused DoesNotPass ≡ eqiAt t a d (entriesOf e)
+        eqi-high w = ap (λ (i : Indices). placeIf (filled i b) (a + 4 + 2 * getD t (a + 3) 0)) (sym w) ∙ eqi-sets s k h v
 
-        pub eqi-bare : (n : ℕ) → s ≡ indices.Of n → full n b ≡ false → place.Refused DoesNotPass ≡ eqiAt t a d (entriesOf t e)
-        eqi-bare n w x = ap (λ (p : Bool). placeIf p (a + 4 + 2 * getD t (a + 3) 0)) (sym x) ∙ ap (λ (i : Indices). placeIf (filled i b) (a + 4 + 2 * getD t (a + 3) 0)) (sym w) ∙ eqi-sets s m k h u v
+        pub eqi-bare : (n : ℕ) → s ≡ indices.Of n → full n b ≡ false → place.Refused DoesNotPass ≡ eqiAt t a d (entriesOf e)
+        eqi-bare n w x = ap (λ (p : Bool). placeIf p (a + 4 + 2 * getD t (a + 3) 0)) (sym x) ∙ ap (λ (i : Indices). placeIf (filled i b) (a + 4 + 2 * getD t (a + 3) 0)) (sym w) ∙ eqi-sets s k h v
 
-        pub eqi-there : (n : ℕ) → s ≡ indices.Of n → full n b ≡ true → place.At (a + 4 + 2 * getD t (a + 3) 0) ≡ eqiAt t a d (entriesOf t e)
-        eqi-there n w x = ap (λ (p : Bool). placeIf p (a + 4 + 2 * getD t (a + 3) 0)) (sym x) ∙ ap (λ (i : Indices). placeIf (filled i b) (a + 4 + 2 * getD t (a + 3) 0)) (sym w) ∙ eqi-sets s m k h u v
+        pub eqi-there : (n : ℕ) → s ≡ indices.Of n → full n b ≡ true → place.At (a + 4 + 2 * getD t (a + 3) 0) ≡ eqiAt t a d (entriesOf e)
+        eqi-there n w x = ap (λ (p : Bool). placeIf p (a + 4 + 2 * getD t (a + 3) 0)) (sym x) ∙ ap (λ (i : Indices). placeIf (filled i b) (a + 4 + 2 * getD t (a + 3) 0)) (sym w) ∙ eqi-sets s k h v
 
 -- ---- the fixed words, with the opcode known
 

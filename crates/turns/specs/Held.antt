@@ -1,11 +1,11 @@
 -- What the checker's state stands for (document 01, 'When code passes').
-use mathlib.Core.Path.{_≡_}
-use Prim.Native.Nat.{ℕ, zero, suc, _+_, _-_, _≤_}
-use mathlib.Core.Bool.{Bool, true, false, cond}
+use Prim.Native.Nat.{ℕ, zero, suc, _-_, _≤_}
+use mathlib.Core.Bool.{Bool, false, cond}
 use mathlib.Core.List.{List, [], _∷_}
 use lib.Dec.{eqb, ltb}
-use lib.ListN.{getD, take, drop}
-use Rattle.documents.specs.Passing.{openLimit, entryLimit, Slot, slot, allBelow}
+use lib.ListN.{getD}
+use Rattle.documents.specs.Passing.{openLimit, entryLimit, Slot, slot}
+use Rattle.indices.specs.Sets.{members}
 use Rattle.turns.specs.declared.entries.Entries.{Entries}
 use Rattle.turns.specs.declared.entries.Found.{Found}
 use Rattle.turns.specs.declared.entries.Found.the-variants as found
@@ -15,34 +15,23 @@ unfoldable pub stacked : ℕ → List ℕ → List ℕ
 stacked zero ds = []
 stacked (suc n) ds = getD ds n 0 ∷ stacked n ds
 
--- A guard is held as the place in the code where the count of its CHECK's list stands; 0, where an opcode stands, for none.
-unfoldable pub listAt : List ℕ → ℕ → List ℕ
-listAt t g = cond (eqb g 0) [] (take (getD t g 0) (drop (g + 1) t))
-
-unfoldable pub slots : List ℕ → ℕ → List ℕ → List ℕ → List Slot
-slots t zero ds gs = []
-slots t (suc n) ds gs = slot (getD ds n 0) (listAt t (getD gs n 0)) ∷ slots t n ds gs
+-- a guard is held as a set, so its list is that of the set's members
+unfoldable pub slots : ℕ → List ℕ → List ℕ → List Slot
+slots zero ds gs = []
+slots (suc n) ds gs = slot (getD ds n 0) (members (getD gs n 0)) ∷ slots n ds gs
 
 -- the entries, the newest first
-abbrev pub entriesOf : List ℕ → Entries → List Slot
-entriesOf t e = slots t (e .count) (e .depths) (e .guards)
+abbrev pub entriesOf : Entries → List Slot
+entriesOf e = slots (e .count) (e .depths) (e .guards)
 
 -- depths within the limit
 pub record Low (ds : List ℕ) : Type 0 where
   pub low : (i : ℕ) → getD ds i 0 ≤ openLimit
 
--- a guard's indices are below 64
-abbrev pub Small : List ℕ → ℕ → Type 0
-Small t g = allBelow 64 (listAt t g) ≡ true
-
-pub record AllSmall (t gs : List ℕ) : Type 0 where
-  pub small : (i : ℕ) → Small t (getD gs i 0)
-
--- the entries are at most sixteen, and within the limits
-pub record Sound (t : List ℕ) (e : Entries) : Type 0 where
+-- the entries are at most sixteen, and none is deeper than the limit
+pub record Sound (e : Entries) : Type 0 where
   pub few : e .count ≤ entryLimit
   pub depths : Low (e .depths)
-  pub guards : AllSmall t (e .guards)
 
 -- entry x, counted from the newest
 unfoldable pub foundIn : Entries → ℕ → Found

@@ -5,7 +5,6 @@ use crate::entries::Entries;
 use crate::entries::Found;
 use crate::entries::find;
 use crate::entries::has_depth;
-use crate::entries::listed;
 use documents::Refusal;
 use documents::op::CHECK;
 use documents::op::EQIMM;
@@ -45,8 +44,8 @@ pub enum Turned {
 
 // The match instruction at a place, the top at depth d, `below` terms below it.
 pub fn turn(code: &[u32], at: usize, entries: Entries, d: u8, below: usize) -> Turned
-    requires { ⌜ (at < length (now code)) × (getD (now code) at 0 ≤ 7) × (below < 256) × (d ≤ 63) × Sound (now code) entries ⌝ }
-    ensures { λ r. ⌜ r ≡ turnAt (now (code .entry)) at d below (entriesOf (now (code .entry)) entries) ⌝ }
+    requires { ⌜ (at < length (now code)) × (getD (now code) at 0 ≤ 7) × (below < 256) × (d ≤ 63) × Sound entries ⌝ }
+    ensures { λ r. ⌜ r ≡ turnAt (now (code .entry)) at d below (entriesOf entries) ⌝ }
 {
     let Place::At(next) = fetch(code, at, code.len()) else {
         return Turned::Refused(Refusal::DoesNotPass);
@@ -89,8 +88,8 @@ fn arguments(name: u32, count: u32, next: usize, d: u8, below: usize) -> Turned
 
 // CHECK to EQI leave the top.
 fn stays(code: &[u32], at: usize, next: usize, entries: Entries, d: u32) -> Place
-    requires { ⌜ (at < length (now code)) × (3 ≤ getD (now code) at 0) × (getD (now code) at 0 ≤ 7) × (next ≡ at + 1 + fixedAfter (getD (now code) at 0)) × (next ≤ length (now code)) × (d ≤ 63) × Sound (now code) entries ⌝ }
-    ensures { λ r. ⌜ StaysAt (now (code .entry)) at d (entriesOf (now (code .entry)) entries) r ⌝ }
+    requires { ⌜ (at < length (now code)) × (3 ≤ getD (now code) at 0) × (getD (now code) at 0 ≤ 7) × (next ≡ at + 1 + fixedAfter (getD (now code) at 0)) × (next ≤ length (now code)) × (d ≤ 63) × Sound entries ⌝ }
+    ensures { λ r. ⌜ StaysAt (now (code .entry)) at d (entriesOf entries) r ⌝ }
 {
     let op = code[at];
     if op == CHECK {
@@ -149,8 +148,8 @@ fn each_below(list: &[u32], d: u32) -> bool
 }
 
 fn eqi(code: &[u32], at: usize, entries: Entries, d: u32) -> Place
-    requires { ⌜ (at + 4 ≤ length (now code)) × (d ≤ 63) × Sound (now code) entries ⌝ }
-    ensures { λ r. ⌜ r ≡ eqiAt (now (code .entry)) at d (entriesOf (now (code .entry)) entries) ⌝ }
+    requires { ⌜ (at + 4 ≤ length (now code)) × (d ≤ 63) × Sound entries ⌝ }
+    ensures { λ r. ⌜ r ≡ eqiAt (now (code .entry)) at d (entriesOf entries) ⌝ }
 {
     let Found::Entry(b, guard) = find(entries, code[at + 1]) else {
         return Place::Refused(Refusal::DoesNotPass);
@@ -166,7 +165,7 @@ fn eqi(code: &[u32], at: usize, entries: Entries, d: u32) -> Place
     if code.len() < end {
         return Place::Refused(Refusal::DoesNotPass);
     }
-    let Indices::Of(set) = firsts(&code[from..end], listed(code, guard), b, d) else {
+    let Indices::Of(set) = firsts(&code[from..end], guard, b, d) else {
         return Place::Refused(Refusal::DoesNotPass);
     };
     if !all_below(set, b) {

@@ -4,7 +4,7 @@ use mathlib.Core.Path.{sym, _∙_}
 use native.Mathlib.Omega.{arith}
 use borrow.Author.Tests.{not-true, not-false}
 use Rattle.turns.proofs.Turning.{eqi-missing, eqi-other, eqi-past, eqi-many, eqi-high, eqi-bare, eqi-there}
-use Rattle.turns.proofs.Entered.{found-low, found-small}
+use Rattle.turns.proofs.Entered.{found-low}
 use borrow.Author.Needs.{needs}
 use Rattle.turns.proofs.eqi.Statement.{statement}
 use Rattle.turns.proofs.eqi.Tie as tie
@@ -42,11 +42,10 @@ eqi-spec =
     (λ c. search needs)
     (λ c. search needs)
     (λ c. search needs)
-    (λ c κs. found-small _ _ _ _ (sym (c .before .before .before .before .before .before .before .before .before .before .find .ensures) ∙ c .before .before .before .before .before .before .before .before .b .given .1) (c .before .before .before .before .before .before .before .before .before .before .before .before .before .pre .2))
-    (λ c κs. found-low _ _ _ _ (sym (c .before .before .before .before .before .before .before .before .before .before .before .find .ensures) ∙ c .before .before .before .before .before .before .before .before .before .b .given .1) (c .before .before .before .before .before .before .before .before .before .before .before .before .before .before .pre .2))
+    (λ c κs. found-low _ _ _ _ (sym (c .before .before .before .before .before .before .before .before .before .before .find .ensures) ∙ c .before .before .before .before .before .before .before .before .b .given .1) (c .before .before .before .before .before .before .before .before .before .before .before .before .before .pre .2))
     (λ c. search needs)
     (λ c. search needs)
-    (λ c. let l = found-low _ _ _ _ (sym (c .before .before .before .before .before .before .before .before .before .before .before .before .before .before .find .ensures) ∙ c .before .before .before .before .before .before .before .before .before .before .before .before .b .given .1) (c .before .before .before .before .before .before .before .before .before .before .before .before .before .before .before .before .before .pre .2) in eqi-high _ _ _ _ _ _ (sym (c .before .before .before .before .before .before .before .before .before .before .before .before .before .before .find .ensures) ∙ c .before .before .before .before .before .before .before .before .before .before .before .before .b .given .1) (omega arith) _ _ (omega arith) (omega arith) (c .before .before .before .listed .ensures) (c .before .before .firsts .ensures) (c .enum-told2 .given .1))
-    (λ c κs. found-low _ _ _ _ (sym (c .before .before .before .before .before .before .before .before .before .before .before .before .before .before .before .find .ensures) ∙ c .before .before .before .before .before .before .before .before .before .before .before .before .before .b .given .1) (c .before .before .before .before .before .before .before .before .before .before .before .before .before .before .before .before .before .before .pre .2))
-    (λ c. let l = found-low _ _ _ _ (sym (c .before .before .before .before .before .before .before .before .before .before .before .before .before .before .before .before .before .find .ensures) ∙ c .before .before .before .before .before .before .before .before .before .before .before .before .before .before .before .b .given .1) (c .before .before .before .before .before .before .before .before .before .before .before .before .before .before .before .before .before .before .before .before .pre .2) in eqi-bare _ _ _ _ _ _ (sym (c .before .before .before .before .before .before .before .before .before .before .before .before .before .before .before .before .before .find .ensures) ∙ c .before .before .before .before .before .before .before .before .before .before .before .before .before .before .before .b .given .1) (omega arith) _ _ (omega arith) (omega arith) (c .before .before .before .before .before .before .listed .ensures) (c .before .before .before .before .before .firsts .ensures) _ (c .before .before .before .set .given .1) (sym (c .before .all-below .ensures) ∙ not-true _ (c .if4 .taken)))
-    (λ c. let l = found-low _ _ _ _ (sym (c .before .before .before .before .before .before .before .before .before .before .before .before .before .before .before .before .before .find .ensures) ∙ c .before .before .before .before .before .before .before .before .before .before .before .before .before .before .before .b .given .1) (c .before .before .before .before .before .before .before .before .before .before .before .before .before .before .before .before .before .before .before .before .pre .2) in eqi-there _ _ _ _ _ _ (sym (c .before .before .before .before .before .before .before .before .before .before .before .before .before .before .before .before .before .find .ensures) ∙ c .before .before .before .before .before .before .before .before .before .before .before .before .before .before .before .b .given .1) (omega arith) _ _ (omega arith) (omega arith) (c .before .before .before .before .before .before .listed .ensures) (c .before .before .before .before .before .firsts .ensures) _ (c .before .before .before .set .given .1) (sym (c .before .all-below .ensures) ∙ not-false _ (c .if4 .left))))
+    (λ c. let l = found-low _ _ _ _ (sym (c .before .before .before .before .before .before .before .before .before .before .before .before .before .find .ensures) ∙ c .before .before .before .before .before .before .before .before .before .before .before .b .given .1) (c .before .before .before .before .before .before .before .before .before .before .before .before .before .before .before .before .pre .2) in eqi-high _ _ _ _ _ _ (sym (c .before .before .before .before .before .before .before .before .before .before .before .before .before .find .ensures) ∙ c .before .before .before .before .before .before .before .before .before .before .before .b .given .1) (omega arith) _ (omega arith) (omega arith) (c .before .before .firsts .ensures) (c .enum-told2 .given .1))
+    (λ c κs. found-low _ _ _ _ (sym (c .before .before .before .before .before .before .before .before .before .before .before .before .before .before .find .ensures) ∙ c .before .before .before .before .before .before .before .before .before .before .before .before .b .given .1) (c .before .before .before .before .before .before .before .before .before .before .before .before .before .before .before .before .before .pre .2))
+    (λ c. let l = found-low _ _ _ _ (sym (c .before .before .before .before .before .before .before .before .before .before .before .before .before .before .before .before .find .ensures) ∙ c .before .before .before .before .before .before .before .before .before .before .before .before .before .before .b .given .1) (c .before .before .before .before .before .before .before .before .before .before .before .before .before .before .before .before .before .before .before .pre .2) in eqi-bare _ _ _ _ _ _ (sym (c .before .before .before .before .before .before .before .before .before .before .before .before .before .before .before .before .find .ensures) ∙ c .before .before .before .before .before .before .before .before .before .before .before .before .before .before .b .given .1) (omega arith) _ (omega arith) (omega arith) (c .before .before .before .before .before .firsts .ensures) _ (c .before .before .before .set .given .1) (sym (c .before .all-below .ensures) ∙ not-true _ (c .if4 .taken)))
+    (λ c. let l = found-low _ _ _ _ (sym (c .before .before .before .before .before .before .before .before .before .before .before .before .before .before .before .before .find .ensures) ∙ c .before .before .before .before .before .before .before .before .before .before .before .before .before .before .b .given .1) (c .before .before .before .before .before .before .before .before .before .before .before .before .before .before .before .before .before .before .before .pre .2) in eqi-there _ _ _ _ _ _ (sym (c .before .before .before .before .before .before .before .before .before .before .before .before .before .before .before .before .find .ensures) ∙ c .before .before .before .before .before .before .before .before .before .before .before .before .before .before .b .given .1) (omega arith) _ (omega arith) (omega arith) (c .before .before .before .before .before .firsts .ensures) _ (c .before .before .before .set .given .1) (sym (c .before .all-below .ensures) ∙ not-false _ (c .if4 .left))))
