@@ -1,5 +1,5 @@
-// Whether code passes (document 01, 'When code passes'): the match part here, the build part in build.rt. Guards are places in the code, so nothing
-// of it is copied.
+// Whether code passes (document 01, 'When code passes'): the match part here, the build part in build.rt. Each instruction is read and checked in one
+// walk; the state goes by value.
 pub mod build; // blocks and bodies
 
 use crate::build::Ended;
