@@ -1,0 +1,1 @@
+// What the build part of a run makes, as a tree of its instructions: definitions and laws only.
