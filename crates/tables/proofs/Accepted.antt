@@ -209,7 +209,7 @@ good-begins t e = go (termsIn t) refl e
 
 -- ---- Depth, level by level
 
-depth-headed : (k s : ℕ) (ts : Terms) → Shape k s ts → depth (headed k s ts) ≡ 1 + depth ts
+pub depth-headed : (k s : ℕ) (ts : Terms) → Shape k s ts → depth (headed k s ts) ≡ 1 + depth ts
 depth-headed zero s ts h = rw h refl
 depth-headed (suc zero) s ts h = omega arith
 depth-headed (suc (suc zero)) s ts h = omega arith
@@ -218,7 +218,7 @@ depth-headed (suc (suc (suc zero))) s ts h =
     omega arith
 depth-headed (suc (suc (suc (suc k)))) s ts h = absurd h
 
-leb-max : (x y l : ℕ) → leb (max x y) l ≡ leb x l && leb y l
+pub leb-max : (x y l : ℕ) → leb (max x y) l ≡ leb x l && leb y l
 leb-max x y l = go (leb x l) (leb y l) refl refl
   where
     go : (p q : Bool) → leb x l ≡ p → leb y l ≡ q → leb (max x y) l ≡ p && q
@@ -235,10 +235,10 @@ join-nil : (ts : Terms) → join ts Nil ≡ ts
 join-nil Nil = refl
 join-nil (Cons t ts) = ap (Cons t) (join-nil ts)
 
-first-arguments : (ts : Terms) (us : List Term) → firstTerms (len ts) (before many ts us) ≡ ts
+pub first-arguments : (ts : Terms) (us : List Term) → firstTerms (len ts) (before many ts us) ≡ ts
 first-arguments ts us = rw (add-zero (len ts)) at (first-before ts us 0 ∙ join-nil ts)
 
-drop-arguments : (ts : Terms) (us : List Term) → drop (len ts) (before many ts us) ≡ us
+pub drop-arguments : (ts : Terms) (us : List Term) → drop (len ts) (before many ts us) ≡ us
 drop-arguments Nil us = refl
 drop-arguments (Cons t ts) us = drop-arguments ts us
 
@@ -265,7 +265,7 @@ abbrev pub listed : List ℕ → ℕ → List ℕ
 listed above zero = []
 listed above (suc k) = getD above k 0 ∷ listed above k
 
-listed-set : (above : List ℕ) (k m v : ℕ) → k ≤ m → listed (set above m v) k ≡ listed above k
+pub listed-set : (above : List ℕ) (k m v : ℕ) → k ≤ m → listed (set above m v) k ≡ listed above k
 listed-set above zero m v h = refl
 listed-set above (suc k) m v h = ap₂ (λ (x : ℕ) (l : List ℕ). x ∷ l) (getD-set-other above m k v 0 (λ e. omega arith)) (listed-set above k m v (omega arith))
 
@@ -273,7 +273,7 @@ abbrev pub total : List ℕ → ℕ
 total [] = 0
 total (n ∷ ns) = n + total ns
 
-depth-positive : (t : Term) → 0 < depth t
+pub depth-positive : (t : Term) → 0 < depth t
 depth-positive (Var x) = omega arith
 depth-positive (Sym s ts) = omega arith
 depth-positive (Meta z ts) = omega arith

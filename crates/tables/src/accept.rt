@@ -50,7 +50,7 @@ pub fn accept_subject(table: &[u32]) -> Sized
 }
 
 // Whether a table is good, however deep: one running count of the terms still owed.
-fn good(table: &[u32]) -> bool
+pub fn good(table: &[u32]) -> bool
     ensures { λ r. ⌜ r ≡ isGood (now (table .entry)) ⌝ }
 {
     let mut owed: usize = 1;
@@ -90,7 +90,7 @@ fn in_layout(word: u32, count: u32) -> bool
 
 // Whether no node of a good table is deeper than 64. For each level above the place of the walk it keeps how many terms are owed there, in an
 // array, so that a table however deep takes no more stack.
-fn is_shallow(table: &[u32]) -> bool
+pub fn is_shallow(table: &[u32]) -> bool
     requires { ⌜ Begins 1 (now table) ⌝ }
     ensures { λ r. ⌜ r ≡ leb (depth (front (now (table .entry)))) depthLimit ⌝ }
 {

@@ -1,0 +1,122 @@
+// The subject's check, and where each of its nodes stands: its depth and the abstractions above it.
+use documents::Refusal;
+use tables::accept::Sized;
+use tables::accept::good;
+use tables::accept::is_shallow;
+use tables::node::ABSTRACTION;
+use tables::node::FIRST_METAVARIABLE;
+use tables::node::MOST_DEPTH;
+use tables::node::PLAN_NODES;
+ghost use mathlib.Core.Path.{_≡_};
+ghost use mathlib.Core.Bool.{true, false};
+ghost use Prim.Native.Nat.{_<_, _≤_};
+ghost use lib.ListN.{length};
+ghost use Rattle.documents.specs.Lists.{isEmpty};
+ghost use Rattle.documents.specs.Rules.{metas};
+ghost use Rattle.documents.specs.Numbers.{subjectIn};
+ghost use Rattle.tables.specs.declared.accept.Sized.the-variants.{Refused};
+ghost use Rattle.tables.specs.Answers.{sized, isGood};
+ghost use Rattle.tables.specs.Parts.{front};
+ghost use Rattle.survey.specs.Places.{Surveyed, below, levels};
+
+// A level of the walk is one word: how many terms are owed there, times this, and the place of their roots.
+pub const TERM: u32 = 65536;
+
+// A level further in, and there an abstraction besides.
+pub const DEEPER: u32 = 256;
+pub const BOUND: u32 = 257;
+
+// The root's level: one term at depth 1, with no abstraction above it.
+pub const ROOT: u32 = 65792;
+
+// Places from here on are those of depth 64.
+pub const DEEPEST: u32 = 16384;
+
+// The check of a subject. If it is accepted, the table of places has a word for each node; else it is working room.
+pub fn survey(subject: &[u32], places: &mut [u32]) -> Sized
+    requires { ⌜ 4096 ≤ length (now places) ⌝ }
+    ensures { λ r. ⌜ Surveyed (now (subject .entry)) (now (places .exit)) r ⌝ }
+{
+    if 2 * (PLAN_NODES as usize) < subject.len() {
+        return Sized::Refused(Refusal::TooManyWords);
+    }
+    if !good(subject) {
+        return Sized::Refused(Refusal::TableNotGood);
+    }
+    lay(subject, places)
+}
+
+// The rest of the check, for a good table: one walk that notes each node's place. Levels further out that still owe terms wait in an array, each
+// with the place that its terms have, so that going back to one restores both its depth and its abstractions.
+fn lay(subject: &[u32], places: &mut [u32]) -> Sized
+    requires { ⌜ (isGood (now subject) ≡ true) × (length (now subject) ≤ 8192) × (4096 ≤ length (now places)) ⌝ }
+    ensures { λ r. ⌜ Surveyed (now (subject .entry)) (now (places .exit)) r ⌝ }
+{
+    let mut waiting = [0u32; MOST_DEPTH];
+    let mut kept: usize = 0;
+    let mut here = ROOT;
+    let mut node: usize = 0;
+    loop {
+        let word = subject[2 * node];
+        if FIRST_METAVARIABLE <= word {
+            if word < ABSTRACTION {
+                return Sized::Refused(with_metavariable(subject));
+            }
+        }
+        let count = subject[2 * node + 1];
+        let place = here % TERM;
+        places[node] = place;
+        node += 1;
+        if count != 0 {
+            if DEEPEST <= place {
+                return Sized::Refused(Refusal::TooDeep);
+            }
+            waiting[kept] = here - TERM;
+            kept = keep(kept, here);
+            here = count * TERM + inside(place, word);
+            continue;
+        }
+        if 2 * TERM <= here {
+            here -= TERM;
+            continue;
+        }
+        if kept == 0 {
+            return Sized::Nodes(node);
+        }
+        kept -= 1;
+        here = waiting[kept];
+    }
+}
+
+// The levels that wait when a node's arguments are gone into: the node's own among them if it owes more than the node.
+fn keep(kept: usize, here: u32) -> usize
+    requires { ⌜ kept < 64 ⌝ }
+    ensures { λ r. ⌜ r ≡ levels kept here ⌝ }
+{
+    if here < 2 * TERM {
+        return kept;
+    }
+    kept + 1
+}
+
+// The place of a node's arguments.
+fn inside(place: u32, word: u32) -> u32
+    requires { ⌜ place < 16384 ⌝ }
+    ensures { λ r. ⌜ r ≡ below place word ⌝ }
+{
+    if word == ABSTRACTION {
+        return place + BOUND;
+    }
+    place + DEEPER
+}
+
+// The refusal of a good subject with a metavariable: 3 comes before 4.
+fn with_metavariable(subject: &[u32]) -> Refusal
+    requires { ⌜ (isGood (now subject) ≡ true) × (length (now subject) ≤ 8192) × (isEmpty (metas (front (now subject))) ≡ false) ⌝ }
+    ensures { λ r. ⌜ Refused r ≡ sized (subjectIn (now (subject .entry))) ⌝ }
+{
+    if is_shallow(subject) {
+        return Refusal::MetavariableInSubject;
+    }
+    Refusal::TooDeep
+}
