@@ -30,13 +30,13 @@ offsetOf off [] x = x + off
 offsetOf off (k ∷ nst) zero = k
 offsetOf off (k ∷ nst) (suc x) = suc (offsetOf off nst x)
 
-offset-raise : (n off : ℕ) (nst : List ℕ) (x : ℕ) → offsetOf (off + n) (map (λ y. y + n) nst) x ≡ n + offsetOf off nst x
+pub offset-raise : (n off : ℕ) (nst : List ℕ) (x : ℕ) → offsetOf (off + n) (map (λ y. y + n) nst) x ≡ n + offsetOf off nst x
 offset-raise n off [] x = omega arith
 offset-raise n off (k ∷ nst) zero = omega arith
 offset-raise n off (k ∷ nst) (suc x) = let h = offset-raise n off nst x in omega arith
 
 -- past the LAMBDAs that are open, OFFSET alone counts
-offset-past : (off : ℕ) (nst : List ℕ) (n x : ℕ) → length nst ≡ n → offsetOf off nst (n + x) ≡ n + (x + off)
+pub offset-past : (off : ℕ) (nst : List ℕ) (n x : ℕ) → length nst ≡ n → offsetOf off nst (n + x) ≡ n + (x + off)
 offset-past off [] zero x e = omega arith
 offset-past off [] (suc n) x e = absurd (omega arith)
 offset-past off (k ∷ nst) zero x e = absurd (omega arith)

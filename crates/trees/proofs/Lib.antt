@@ -1,2 +1,4 @@
 pub mod Related
 pub mod Sizes
+pub mod Values
+pub mod Words
