@@ -111,11 +111,11 @@ left-ok P (suc n) (u ∷ us) h = left-ok P n us (h .1)
 
 -- ---- PUSHI: the bodies behind their keys
 
-abbrev programs : Bodies → List Program
+abbrev pub programs : Bodies → List Program
 programs None = []
 programs (Body k c a) = c ∷ programs a
 
-keyed-programs : (a : Bodies) → a ≡ keyed (keys a) (programs a)
+pub keyed-programs : (a : Bodies) → a ≡ keyed (keys a) (programs a)
 keyed-programs None = refl
 keyed-programs (Body k c a) = ap (Body k c) (keyed-programs a)
 
@@ -126,7 +126,7 @@ one-term (some (h ∷ [])) t = ap (λ (n : ℕ). some (n ∷ [])) (eqb-true h 1 
 one-term (some (h ∷ h₀ ∷ hs)) t = absurd t
 
 -- the counts after an instruction
-counts-are : (h k : ℕ) (l hs : List ℕ) → some (h ∷ l) ≡ some hs → h ≡ k → hs ≡ k ∷ l
+pub counts-are : (h k : ℕ) (l hs : List ℕ) → some (h ∷ l) ≡ some hs → h ≡ k → hs ≡ k ∷ l
 counts-are h k l hs e p = cc
 
 module _ (Sub : ℕ → Type 0) where

@@ -2,3 +2,5 @@ pub mod Related
 pub mod Sizes
 pub mod Values
 pub mod Words
+pub mod Depths
+pub mod Reaches
