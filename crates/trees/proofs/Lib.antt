@@ -4,3 +4,4 @@ pub mod Values
 pub mod Words
 pub mod Depths
 pub mod Reaches
+pub mod Growing

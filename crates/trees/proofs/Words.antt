@@ -50,7 +50,7 @@ abbrev pub Quiet : Bool → ℕ → List ℕ → Type 0
 Quiet true off nst = Unit {0}
 Quiet false off nst = (x : ℕ) → offsetOf off nst x ≡ x
 
-quiet-under : (inside : Bool) (off : ℕ) (nst : List ℕ) → Quiet inside off nst → Quiet inside off (0 ∷ nst)
+pub quiet-under : (inside : Bool) (off : ℕ) (nst : List ℕ) → Quiet inside off nst → Quiet inside off (0 ∷ nst)
 quiet-under true off nst q = tt
 quiet-under false off nst q = elim [ zero ↦ refl | suc x ↦ ap suc (q x) ]
 
