@@ -5,3 +5,4 @@ pub mod Words
 pub mod Depths
 pub mod Reaches
 pub mod Growing
+pub mod Made
