@@ -1,7 +1,7 @@
 -- How deep a tree says that its term is, it is; OFFSET and NSTACK do not change it.
-use mathlib.Core.Path.{_≡_, refl, sym, ap, ap₂, _∙_}
-use mathlib.Core.Logic.{_⊎_, inl, inr}
-use Prim.Native.Nat.{ℕ, zero, suc, _+_, _-_, _≤_, _<_, max}
+use mathlib.Core.Path.{_≡_, refl, ap, ap₂}
+use mathlib.Core.Logic.{inl, inr}
+use Prim.Native.Nat.{ℕ, suc, _+_, _-_, _≤_, max}
 use native.Mathlib.Omega.{arith}
 use mathlib.Core.Option.{Option, none, some}
 use mathlib.Core.List.{List, [], _∷_}
@@ -70,6 +70,6 @@ module _ (ent : ℕ → Term) where
   depth-is l (Pushed e D ks ps) =
       spread-depth (assoc (pairlists ks (depthOf ent ps))) (instead l (depthAt l D) ks (value ent l ps)) 0 (ent e)
       (free-all _ (ent e) (λ y. free-depth l (depthAt l D) y (assoc (pairlists ks (depthOf ent ps)) y) (assoc (pairlists ks (listed (value ent l ps))) y)
-        (found-related DepthOf ks (depthOf ent ps) (listed (value ent l ps)) (depth-is l ps) y)))
+      (found-related DepthOf ks (depthOf ent ps) (listed (value ent l ps)) (depth-is l ps) y)))
   depth-is l Leaf = tt
   depth-is l (More p ps) = (depth-is l p, depth-is l ps)

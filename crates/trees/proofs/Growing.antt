@@ -6,14 +6,14 @@ use Prim.Native.Nat.{ℕ, zero, suc, _+_, _-_, _≤_, _<_}
 use native.Mathlib.Nat.{le-of-suc-le-suc, not-suc-le-zero}
 use native.Mathlib.Omega.{arith}
 use mathlib.Core.Bool.{Bool, true, false, not, _&&_}
-use mathlib.Core.Option.{Option, none, some}
+use mathlib.Core.Option.{Option, some}
 use mathlib.Core.List.{List, [], _∷_, _++_, map}
 use lib.Dec.{T, eqb, leb, ltb}
 use lib.ListN.{length, getElem?, length-map}
 use borrow.Author.Tests.{eqb-true, leb-true, ltb-true}
 use Rattle.documents.specs.Limits.{argumentLimit, indexLimit, dShift}
 use Rattle.documents.specs.Lists.{need}
-use Rattle.documents.specs.Terms.{one, many, Var, Sym, Abst, Nil, Cons, Term, Terms, len, rename, subst}
+use Rattle.documents.specs.Terms.{one, many, Abst, Term, Terms, len, rename, subst}
 use Rattle.documents.specs.Instructions.{Piece, instruction, program, bodies, Code, IS, ISABST, NEXT, CHECK, SET, EQVAR, EQIMM, EQI, CELL, LAMBDA, ADBMAL, PUSHVAR, PUSHIMM, PUSHI, End, _▸_, None, Body, Instruction, Program, Bodies, bodyCount, keys}
 use Rattle.documents.specs.Machine.{Current, Entry, entry, State, state, Outcome, done, _>>=_, Action, split, pushi, exec}
 use Rattle.documents.specs.Translation.{offset}

@@ -4,13 +4,13 @@ use mathlib.Core.Path.{_≡_, refl, sym, ap, ap₂, _∙_}
 use mathlib.Core.Logic.{_⊎_, inl, inr}
 use Prim.Native.Nat.{ℕ, zero, suc, _+_, _-_, _≤_, _<_, max}
 use native.Mathlib.Omega.{arith}
-use mathlib.Core.Bool.{Bool, true, false, not, _&&_, cond}
+use mathlib.Core.Bool.{Bool, true, false, _&&_, cond}
 use mathlib.Core.Option.{Option, none, some}
 use mathlib.Core.List.{List, [], _∷_}
 use lib.Dec.{T, leb, ltb, leb·zero, leb·suc-suc}
 use lib.ListN.{length}
 use borrow.Author.Tests.{leb-true, leb-false, lt-ltb, le-ltb, le-leb, lt-leb, ltb-true, ltb-false}
-use Rattle.documents.specs.Limits.{dShift, indexLimit}
+use Rattle.documents.specs.Limits.{dShift}
 use Rattle.documents.specs.Lists.{every, assoc, pairlists}
 use Rattle.documents.specs.Terms.{Sort, one, many, Tm, Var, Sym, Meta, Abst, Nil, Cons, Term, Terms, len, rename, subst}
 use Rattle.documents.specs.Tables.{Fits, depth, indices}
@@ -121,8 +121,8 @@ pushed-reach : (l D : ℕ) (ks rs : List ℕ) (us : Terms) (a : Term) → D + de
 pushed-reach l D ks rs us a d c f h =
     spread-reach l (assoc (pairlists ks rs)) D (instead l (depthAt l D) ks us) 0 l a (omega arith)
     (AllFree-map _ _ a
-      (λ y t. free-reach l (depthAt l D) D y (assoc (pairlists ks rs) y) (assoc (pairlists ks (listed us)) y) d
-        (found-related (ReachOf l) ks rs (listed us) h y) (past-of-none ks (listed us) (depthAt l D) y (c ∙ sym (length-listed us)) t)) f)
+    (λ y t. free-reach l (depthAt l D) D y (assoc (pairlists ks rs) y) (assoc (pairlists ks (listed us)) y) d
+    (found-related (ReachOf l) ks rs (listed us) h y) (past-of-none ks (listed us) (depthAt l D) y (c ∙ sym (length-listed us)) t)) f)
 
 module _ (ent : ℕ → Term) where
   -- in a body, where no entry stands whole

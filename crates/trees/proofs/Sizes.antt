@@ -1,6 +1,6 @@
 -- Sizes of what a tree makes: two words a node, at least one node, no deeper than it has nodes, and no part larger than the whole.
-use mathlib.Core.Path.{_≡_, refl, sym, ap, _∙_}
-use Prim.Native.Nat.{ℕ, zero, suc, _+_, _-_, _*_, _≤_, max}
+use mathlib.Core.Path.{_≡_, refl}
+use Prim.Native.Nat.{ℕ, zero, suc, _+_, _-_, _*_, _≤_}
 use native.Mathlib.Omega.{arith}
 use mathlib.Core.Bool.{Bool, true, false, _||_, cond}
 use mathlib.Core.Option.{Option, none, some}
@@ -9,10 +9,10 @@ use lib.Dec.{T, eqb, ltb}
 use lib.ListN.{length, getD, length-append}
 use borrow.Author.Tests.{eqb-true}
 use Rattle.documents.specs.Lists.{member, assoc, pairlists}
-use Rattle.documents.specs.Terms.{Sort, one, many, Tm, Var, Sym, Meta, Abst, Nil, Cons, Term, Terms}
+use Rattle.documents.specs.Terms.{Sort, one, many, Tm, Var, Sym, Meta, Abst, Nil, Cons, Term}
 use Rattle.documents.specs.Tables.{nodeWord, nodes, depth}
 use Rattle.documents.specs.Rules.{fv, freevars}
-use Rattle.documents.proofs.Lists.{never, on, case}
+use Rattle.documents.proofs.Lists.{case}
 use Rattle.documents.proofs.Tables.{length-tableOf}
 use Rattle.trees.specs.Trees.{Tree, Cell, Block, Bound, Whole, Pushed, Leaf, More, orOne, spreadNodes, sum, Counted, nodesOf, spreadDepth, greatest, depthOf, Writer, Written, orMovedWords, spreadWords, inOrder, wordsOf}
 use Rattle.trees.proofs.Related.{AllRelated, BothRelated, found-related}

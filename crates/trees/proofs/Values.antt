@@ -1,16 +1,16 @@
 -- The term that a tree makes under l open LAMBDAs, as it is before OFFSET and NSTACK rename it, and what the check found of the tree.
-use mathlib.Core.Path.{_≡_, refl, sym, ap, ap₂, _∙_}
+use mathlib.Core.Path.{_≡_, refl, sym, ap, _∙_}
 use mathlib.Core.Logic.{_⊎_, inl, inr}
 use Prim.Native.Nat.{ℕ, zero, suc, _+_, _-_, _≤_, _<_}
 use native.Mathlib.Omega.{arith}
-use mathlib.Core.Bool.{Bool, true, false, not, _||_, cond}
+use mathlib.Core.Bool.{Bool, true, not, _||_, cond}
 use mathlib.Core.Option.{Option, none, some}
 use mathlib.Core.List.{List, [], _∷_}
 use lib.Dec.{T, eqb, leb, leb→le}
 use lib.ListN.{length}
 use Rattle.documents.specs.Limits.{dShift}
 use Rattle.documents.specs.Lists.{member, assoc, pairlists}
-use Rattle.documents.specs.Terms.{Sort, one, many, Tm, Var, Sym, Abst, Nil, Cons, Term, Terms, len, rename, lift, subst}
+use Rattle.documents.specs.Terms.{Sort, many, Tm, Var, Sym, Abst, Nil, Cons, Term, Terms, len, rename, lift, subst}
 use Rattle.documents.proofs.Lists.{never, case}
 use Rattle.documents.proofs.Substitution.{rename-ext, rename-rename, rename-id, substUnders, select}
 use Rattle.documents.proofs.FreeVariables.{unders, AllFree}

@@ -1,13 +1,13 @@
 -- What a good tree writes under OFFSET and NSTACK is the table of its term, renamed by them.
 use mathlib.Core.Path.{_≡_, refl, sym, ap, ap₂, _∙_}
-use mathlib.Core.Logic.{_⊎_, inl, inr}
+use mathlib.Core.Logic.{inl, inr}
 use Prim.Native.Nat.{ℕ, zero, suc, _+_, _-_, _≤_, _<_}
 use native.Mathlib.Nat.{le-of-suc-le-suc, not-suc-le-zero}
 use native.Mathlib.Omega.{arith}
-use mathlib.Core.Bool.{Bool, true, false, not, cond}
+use mathlib.Core.Bool.{Bool, true, false, not}
 use mathlib.Core.Option.{Option, none, some}
 use mathlib.Core.List.{List, [], _∷_, _++_, map}
-use lib.Dec.{T, ltb}
+use lib.Dec.{T}
 use lib.ListN.{length, getD, length-map}
 use borrow.Author.Tests.{lt-ltb, le-ltb}
 use Rattle.documents.specs.Limits.{dShift}
@@ -17,7 +17,7 @@ use Rattle.documents.specs.Tables.{nodeWord, tableOf}
 use Rattle.documents.proofs.Substitution.{rename-ext, rename-rename, rename-id, rename-subst, len-rename, len-subst, substUnders}
 use Rattle.documents.proofs.FreeVariables.{unders, AllFree, AllFree-map}
 use Rattle.kahrs.proofs.RightSide.{offsetOf, offset-raise, offset-past, covered}
-use Rattle.trees.specs.Trees.{Tree, Cell, Block, Bound, Whole, Pushed, Leaf, More, count, Writer, Written, orMovedWords, spreadWords, inOrder, wordsOf}
+use Rattle.trees.specs.Trees.{Tree, Cell, Block, Bound, Whole, Pushed, Leaf, More, Writer, Written, orMovedWords, spreadWords, inOrder, wordsOf}
 use Rattle.trees.proofs.Related.{AllRelated, BothRelated, found-related}
 use Rattle.trees.proofs.Values.{listed, length-listed, depthAt, orPast, instead, past-of-none, value, len-value, Good, View, view}
 
@@ -102,8 +102,8 @@ pushed-words : (l D : ℕ) (ks : List ℕ) (ws : List Writer) (us : Terms) (a : 
 pushed-words l D ks ws us a d c f h off nst e =
     spread-words (assoc (pairlists ks ws)) D off nst (λ y. rename (offsetOf off nst) (instead l (depthAt l D) ks us y)) 0 a
     (AllFree-map _ _ a
-      (λ y t. free-words l (depthAt l D) D off nst y (assoc (pairlists ks ws) y) (assoc (pairlists ks (listed us)) y) d e
-        (found-related (TableOf true l) ks ws (listed us) h y) (past-of-none ks (listed us) (depthAt l D) y (c ∙ sym (length-listed us)) t)) f)
+    (λ y t. free-words l (depthAt l D) D off nst y (assoc (pairlists ks ws) y) (assoc (pairlists ks (listed us)) y) d e
+    (found-related (TableOf true l) ks ws (listed us) h y) (past-of-none ks (listed us) (depthAt l D) y (c ∙ sym (length-listed us)) t)) f)
     ∙ ap (λ (t : Term). tableOf t) (sym (rename-subst (offsetOf off nst) (instead l (depthAt l D) ks us) a))
 
 module _ (ent : ℕ → Term) where
