@@ -6,3 +6,4 @@ pub mod Depths
 pub mod Reaches
 pub mod Growing
 pub mod Made
+pub mod Fitting
