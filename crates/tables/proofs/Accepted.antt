@@ -418,7 +418,7 @@ accepted-table limit t n e = go (tableIn limit t) refl e
           fits = rw (b .1) (h .fits);
         }
 
-fits-subterm : {s : Sort} (t : Tm s) (n : ℕ) (u : Term) → Fits t → subterm t n ≡ some u → Fits u
+pub fits-subterm : {s : Sort} (t : Tm s) (n : ℕ) (u : Term) → Fits t → subterm t n ≡ some u → Fits u
 fits-subterm (Var x) zero u f e = let q : Var x ≡ u = cc in rw (← q) f
 fits-subterm (Var x) (suc n) u f e = never (cc)
 fits-subterm (Sym s ts) zero u f e = let q : Sym s ts ≡ u = cc in rw (← q) f

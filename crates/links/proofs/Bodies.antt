@@ -1,0 +1,79 @@
+-- The bodies of a PUSHI, one after the other.
+use mathlib.Core.Path.{_≡_, refl, sym, ap, _∙_}
+use Prim.Native.Nat.{ℕ, zero, suc, _+_, _-_, _≤_, _<_}
+use native.Mathlib.Omega.{arith}
+use mathlib.Core.Bool.{Bool, true, false, cond}
+use mathlib.Core.Option.{Option, none, some}
+use mathlib.Core.List.{List}
+use lib.Dec.{eqb}
+use lib.ListN.{length, getD}
+use borrow.Author.Tests.{eq-eqb, ne-eqb}
+use Rattle.links.specs.Bodies.{bodyEnd, Readable, keyPlace, placeBehind}
+
+pub readable-more : (t : List ℕ) (q c : ℕ) → Readable t q c → 0 < c → (bodyEnd t q ≤ length t) × Readable t (bodyEnd t q) (c - 1)
+readable-more t q zero r h = absurd (omega arith)
+readable-more t q (suc c) r h = let e : suc c - 1 ≡ c = omega arith in rw e r
+
+pub key-here : (t : List ℕ) (q c y : ℕ) → 0 < c → getD t q 0 ≡ y → keyPlace t q c y ≡ some q
+unfolding keyPlace
+key-here t q zero y h e = absurd (omega arith)
+key-here t q (suc c) y h e = rw (eq-eqb (getD t q 0) y e)
+
+pub key-later : (t : List ℕ) (q c y : ℕ) → 0 < c → ((getD t q 0 ≡ y) → ⊥) → keyPlace t q c y ≡ keyPlace t (bodyEnd t q) (c - 1) y
+unfolding keyPlace
+key-later t q zero y h n = absurd (omega arith)
+key-later t q (suc c) y h n = let e : suc c - 1 ≡ c = omega arith in rw (ne-eqb (getD t q 0) y n, e)
+
+pub key-none : (t : List ℕ) (q c y : ℕ) → c ≤ 0 → keyPlace t q c y ≡ none
+unfolding keyPlace
+key-none t q zero y h = refl
+key-none t q (suc c) y h = absurd (omega arith)
+
+pub behind-later : (t : List ℕ) (q c : ℕ) → 0 < c → placeBehind t q c ≡ placeBehind t (bodyEnd t q) (c - 1)
+unfolding placeBehind
+behind-later t q zero h = absurd (omega arith)
+behind-later t q (suc c) h = let e : suc c - 1 ≡ c = omega arith in rw e
+
+pub behind-none : (t : List ℕ) (q c : ℕ) → c ≤ 0 → placeBehind t q c ≡ q
+unfolding placeBehind
+behind-none t q zero h = refl
+behind-none t q (suc c) h = absurd (omega arith)
+
+-- a walk of the bodies that looks for a key
+pub record Finding (t : List ℕ) (q₀ c₀ y q c : ℕ) : Type 0 where
+  pub readable : Readable t q c
+  pub same : keyPlace t q c y ≡ keyPlace t q₀ c₀ y
+
+pub finding-from : {t : List ℕ} {q c y : ℕ} → Readable t q c → Finding t q c y q c
+finding-from r = record { readable = r; same = refl }
+
+module _ {t : List ℕ} {q₀ c₀ y q c : ℕ} (f : Finding t q₀ c₀ y q c) where
+  pub finding-in : 0 < c → bodyEnd t q ≤ length t
+  finding-in h = readable-more t q c (f .readable) h .0
+
+  pub finding-on : 0 < c → ((getD t q 0 ≡ y) → ⊥) → Finding t q₀ c₀ y (bodyEnd t q) (c - 1)
+  finding-on h n = record { readable = readable-more t q c (f .readable) h .1; same = sym (key-later t q c y h n) ∙ f .same }
+
+  pub finding-here : 0 < c → getD t q 0 ≡ y → keyPlace t q₀ c₀ y ≡ some q
+  finding-here h e = sym (f .same) ∙ key-here t q c y h e
+
+  pub finding-none : c ≤ 0 → keyPlace t q₀ c₀ y ≡ none
+  finding-none h = sym (f .same) ∙ key-none t q c y h
+
+-- a walk of the bodies to their end
+pub record Passing (t : List ℕ) (q₀ c₀ q c : ℕ) : Type 0 where
+  pub readable : Readable t q c
+  pub same : placeBehind t q c ≡ placeBehind t q₀ c₀
+
+pub passing-from : {t : List ℕ} {q c : ℕ} → Readable t q c → Passing t q c q c
+passing-from r = record { readable = r; same = refl }
+
+module _ {t : List ℕ} {q₀ c₀ q c : ℕ} (f : Passing t q₀ c₀ q c) where
+  pub passing-in : 0 < c → bodyEnd t q ≤ length t
+  passing-in h = readable-more t q c (f .readable) h .0
+
+  pub passing-on : 0 < c → Passing t q₀ c₀ (bodyEnd t q) (c - 1)
+  passing-on h = record { readable = readable-more t q c (f .readable) h .1; same = sym (behind-later t q c h) ∙ f .same }
+
+  pub passing-end : c ≤ 0 → q ≡ placeBehind t q₀ c₀
+  passing-end h = sym (behind-none t q c h) ∙ f .same

@@ -1,0 +1,5 @@
+pub mod Links
+pub mod Bodies
+pub mod Nodewise
+pub mod Standing
+pub mod Sequences
