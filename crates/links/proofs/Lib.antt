@@ -3,3 +3,4 @@ pub mod Links
 pub mod Bodies
 pub mod Gathered
 pub mod Entered
+pub mod Ran
