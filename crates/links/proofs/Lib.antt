@@ -4,3 +4,5 @@ pub mod Bodies
 pub mod Gathered
 pub mod Entered
 pub mod Ran
+pub mod Checked
+pub mod Safe

@@ -9,7 +9,7 @@ use lib.Dec.{T, eqb, leb, ltb}
 use lib.ListN.{length, getD}
 use borrow.Author.Tests.{leb-true, leb-false, ltb-true, eqb-true}
 use Rattle.documents.specs.Lists.{need, andThen}
-use Rattle.documents.specs.Instructions.{IS, ISABST, NEXT, CHECK, SET, EQVAR, EQIMM, EQI, CELL, LAMBDA, ADBMAL, PUSHVAR, PUSHIMM, PUSHI, End, _▸_, None, Body, Instruction, Program, Bodies, Read, whole, ReadBodies, wholeBodies, opcode, fixedAfter, bodyCount, before, bodyThen}
+use Rattle.documents.specs.Instructions.{IS, ISABST, NEXT, CHECK, SET, EQVAR, EQIMM, EQI, CELL, LAMBDA, ADBMAL, PUSHVAR, PUSHIMM, PUSHI, End, _▸_, None, Body, Instruction, Program, Bodies, Read, whole, ReadBodies, wholeBodies, fixedAfter, bodyCount, before, bodyThen}
 use Rattle.documents.proofs.Lists.{never, case, on, off, of-and, andThen-is}
 use Rattle.instructions.specs.Places.{programAt, bodiesAt, readAt}
 use Rattle.instructions.proofs.Reading.{readThen, pushedThen, bodies-count, program-plain, program-push, program-short, First, program-first, program-done, bodies-done, bodies-short, bodies-step, read-cell, read-lambda, read-adbmal, read-pushvar, read-pushimm}

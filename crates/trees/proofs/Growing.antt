@@ -56,7 +56,7 @@ level-length : (B : Blocks) (l : ℕ) → level B l ≡ l + length B
 level-length [] l = omega arith
 level-length (ps ∷ B) l = let h = level-length B l in omega arith
 
-level-is : (l : ℕ) (ps : List (Tree one)) (B : Blocks) → l + blocks (map length (ps ∷ B)) ≡ level B l
+pub level-is : (l : ℕ) (ps : List (Tree one)) (B : Blocks) → l + blocks (map length (ps ∷ B)) ≡ level B l
 level-is l ps B =
     let h = level-length B l in
     let k : length (map length B) ≡ length B = length-map B length in
@@ -72,17 +72,17 @@ not-moved false off nst t e q = rename-ext _ (λ x. x) t q ∙ rename-id t
 
 -- ---- CELL: n trees off a block
 
-length-left : (n : ℕ) (ps : List (Tree one)) → length (left n ps) ≡ length ps - n
+pub length-left : (n : ℕ) (ps : List (Tree one)) → length (left n ps) ≡ length ps - n
 length-left zero ps = omega arith
 length-left (suc n) [] = omega arith
 length-left (suc n) (p ∷ ps) = let h = length-left n ps in omega arith
 
-taken-of-block : (n : ℕ) (qs : Tree many) (ps rest : List (Tree one)) → n ≤ length ps → taken n qs (ps ++ rest) ≡ taken n qs ps
+pub taken-of-block : (n : ℕ) (qs : Tree many) (ps rest : List (Tree one)) → n ≤ length ps → taken n qs (ps ++ rest) ≡ taken n qs ps
 taken-of-block zero qs ps rest h = refl
 taken-of-block (suc n) qs [] rest h = absurd (not-suc-le-zero h)
 taken-of-block (suc n) qs (p ∷ ps) rest h = taken-of-block n (More p qs) ps rest (le-of-suc-le-suc h)
 
-left-of-block : (n : ℕ) (ps rest : List (Tree one)) → n ≤ length ps → left n (ps ++ rest) ≡ left n ps ++ rest
+pub left-of-block : (n : ℕ) (ps rest : List (Tree one)) → n ≤ length ps → left n (ps ++ rest) ≡ left n ps ++ rest
 left-of-block zero ps rest h = refl
 left-of-block (suc n) [] rest h = absurd (not-suc-le-zero h)
 left-of-block (suc n) (p ∷ ps) rest h = left-of-block n ps rest (le-of-suc-le-suc h)
