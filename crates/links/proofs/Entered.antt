@@ -9,8 +9,8 @@ use Rattle.documents.specs.Tables.{tableOf, Fits, nodes, depth, subterm}
 use Rattle.documents.specs.Terms.{Term}
 use lib.Seq.{drop-at}
 use Rattle.documents.proofs.Tables.{subterm-place, length-tableOf}
-use Rattle.tables.specs.Parts.{front}
-use Rattle.tables.proofs.Accepted.{fits-subterm}
+use Rattle.tables.specs.Parts.{front, Begins}
+use Rattle.tables.proofs.Accepted.{fits-subterm, part-begins}
 use Rattle.survey.specs.Places.{place, placesOf}
 use Rattle.survey.proofs.Places.{placed, places-root}
 use Rattle.links.specs.Standing.{entryPlace, entryAt, Scene}
@@ -36,6 +36,8 @@ pub record Entered (subject entries places : List ℕ) (e : ℕ) : Type 0 where
   pub shallow : level + depth (entryAt subject entries e) ≤ 65
   pub fewer : above + 1 ≤ level
   pub fits : Fits (entryAt subject entries e)
+  pub begins : Begins 1 (drop (entryPlace entries e) subject)
+  pub is : front (drop (entryPlace entries e) subject) ≡ entryAt subject entries e
 
 module _ {code subject entries work : List ℕ} (sc : Scene code subject entries work) (e : ℕ) (h : e < length entries) where
   entered-at : (m : ℕ) → entryPlace entries e ≡ 2 * m → entryPlace entries e / 2 ≡ m → subterm (front subject) m ≡ some (entryAt subject entries e)
@@ -45,6 +47,7 @@ module _ {code subject entries work : List ℕ} (sc : Scene code subject entries
       let t = front subject in
       let p = subterm-place t m a sub in
       let q = placed 1 0 t m a sub in
+      let b = part-begins {t = subject} m a (sc .table) (sc .fits) sub in
       let r = places-root (q .d) (q .k) a in
       let words-are : drop (2 * m) subject ≡ tableOf a ++ p .behind =
       ap (λ (l : List ℕ). drop (2 * m) l) (sym (sc .table) ∙ p .whole) ∙ drop-at (p .before) (tableOf a ++ p .behind) (2 * m) (p .start)
@@ -73,6 +76,8 @@ module _ {code subject entries work : List ℕ} (sc : Scene code subject entries
         shallow = let k = q .deeper in let j = sc .shallow in omega arith;
         fewer = let k = q .apart in omega arith;
         fits = fits-subterm t m a (sc .fits) sub;
+        begins = rw even (b .0);
+        is = ap (λ (k : ℕ). front (drop k subject)) even ∙ b .1;
       }
 
   pub entered : Entered subject entries (drop 4096 work) e

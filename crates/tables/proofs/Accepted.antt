@@ -452,14 +452,19 @@ front-is u ws vs f e =
     (record { whole = rw q refl; enough = rw q (omega arith) }, rw q refl)
 
 -- The part that starts at a node begins with the subterm there: what each walk asks of its caller.
+pub part-begins : {t : List ℕ} (n : ℕ) (u : Term) → tableOf (front t) ≡ t → Fits (front t) → subterm (front t) n ≡ some u
+    → Begins 1 (drop (2 * n) t) × (front (drop (2 * n) t) ≡ u)
+part-begins {t} n u table fits e =
+    let p = subterm-place (front t) n u e in
+    let w : t ≡ p .before ++ (tableOf u ++ p .behind) = sym table ∙ p .whole in
+    let d : drop (2 * n) t ≡ tableOf u ++ p .behind = ap (drop (2 * n)) w ∙ (drop-at (p .before) (tableOf u ++ p .behind) (2 * n) (p .start)) in
+    let b = table-begins (front t) t table fits in
+    let v = behind-held (p .before) (tableOf u ++ p .behind) n (held t) (p .start) (ap termsIn (sym w) ∙ b .0 .whole) in
+    rw d (front-is u (p .behind) (v .0) (fits-subterm (front t) n u fits e) (v .1))
+
 pub accepted-part : {limit : ℕ} {t : List ℕ} {k : ℕ} (n : ℕ) (u : Term) → AcceptedTable limit t k → subterm (front t) n ≡ some u
     → Begins 1 (drop (2 * n) t) × (front (drop (2 * n) t) ≡ u)
-accepted-part {limit} {t} {k} n u a e =
-    let p = subterm-place (front t) n u e in
-    let w : t ≡ p .before ++ (tableOf u ++ p .behind) = sym (a .table) ∙ p .whole in
-    let d : drop (2 * n) t ≡ tableOf u ++ p .behind = ap (drop (2 * n)) w ∙ (drop-at (p .before) (tableOf u ++ p .behind) (2 * n) (p .start)) in
-    let v = behind-held (p .before) (tableOf u ++ p .behind) n (held t) (p .start) (ap termsIn (sym w) ∙ a .begins .whole) in
-    rw d (front-is u (p .behind) (v .0) (fits-subterm (front t) n u (a .fits) e) (v .1))
+accepted-part n u a e = part-begins n u (a .table) (a .fits) e
 
 -- ---- A subject
 
