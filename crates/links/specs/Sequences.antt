@@ -1,14 +1,17 @@
 -- What a walk of build code relies on, of all that the check asks: how many trees there are before each instruction, and that entries are there.
-use Prim.Native.Nat.{ℕ, _+_, _-_}
+use mathlib.Core.Path.{_≡_}
+use Prim.Native.Nat.{ℕ, zero, suc, _+_, _-_, _≤_}
 use mathlib.Core.Bool.{Bool, true, false, _&&_}
 use mathlib.Core.Option.{Option, none, some}
-use mathlib.Core.List.{List, []}
+use mathlib.Core.List.{List, [], _∷_}
 use lib.Dec.{T, eqb, leb, ltb}
+use lib.ListN.{length, getD}
 use Rattle.documents.specs.Lists.{need, andThen}
-use Rattle.documents.specs.Terms.{one}
+use Rattle.documents.specs.Terms.{one, many}
 use Rattle.documents.specs.Instructions.{Piece, instruction, program, bodies, Code, IS, ISABST, NEXT, CHECK, SET, EQVAR, EQIMM, EQI, CELL, LAMBDA, ADBMAL, PUSHVAR, PUSHIMM, PUSHI, End, _▸_, None, Body, Program}
 use Rattle.instructions.specs.Places.{programAt}
-use Rattle.trees.specs.Trees.{Tree, topOf, grown, Bound}
+use Rattle.trees.specs.Trees.{Tree, Bound, Leaf, More, topOf, grown}
+use Rattle.links.specs.Bodies.{bodyEnd}
 
 abbrev pub isOne : Option ℕ → Bool
 isOne none = false
@@ -48,3 +51,23 @@ treeIn (some c) = topOf (grown c [])
 
 unfoldable pub treeAt : List ℕ → ℕ → ℕ → Tree one
 treeAt t a e = treeIn (programAt t a e)
+
+-- code from place a to place e that makes one tree
+pub record Sequenced (t : List ℕ) (a e E : ℕ) : Type 0 where
+  pub program : Program
+  pub here : programAt t a e ≡ some program
+  pub runs : T (isOne (ran E program 0))
+
+-- c bodies from place q on that make one each
+abbrev pub Bodied : List ℕ → ℕ → ℕ → ℕ → Type 0
+Bodied t q zero E = q ≤ length t
+Bodied t q (suc c) E = (bodyEnd t q ≤ length t) × Sequenced t (q + 2) (bodyEnd t q) E × Bodied t (bodyEnd t q) c E
+
+-- their keys, and their trees
+unfoldable pub keysAt : List ℕ → ℕ → ℕ → List ℕ
+keysAt t q zero = []
+keysAt t q (suc c) = getD t q 0 ∷ keysAt t (bodyEnd t q) c
+
+unfoldable pub treesAt : List ℕ → ℕ → ℕ → Tree many
+treesAt t q zero = Leaf
+treesAt t q (suc c) = More (treeAt t (q + 2) (bodyEnd t q)) (treesAt t (bodyEnd t q) c)
