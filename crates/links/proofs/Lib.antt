@@ -6,3 +6,4 @@ pub mod Entered
 pub mod Ran
 pub mod Checked
 pub mod Safe
+pub mod Spread
