@@ -119,3 +119,43 @@ reach-at f D (Abst t) {r} {d} {n} b h fit =
     rw (named-not-free (nodeWord 3 0) (insideOf r (place d n)) (omega arith), reach-at f D t (below-abstraction b (omega arith)) (omega arith) fit) (omega arith)
 reach-at f D Nil b h fit = refl
 reach-at f D (Cons t ts) b h fit = rw (reach-at f D t b (omega arith) (fit .0), reach-at f D ts b (omega arith) (fit .1))
+
+-- ---- An entry
+
+module _ {subject entries places : List ℕ} {e : ℕ} (en : Entered subject entries places e) where
+  pub entry-root : Below (getD places (entryPlace entries e / 2) 0) (en .level) (en .above) 0 0
+  entry-root = record { level = en .level; above = en .above; root = en .root; levels = omega arith; inside = omega arith; few = omega arith }
+
+  -- its words and places are those of its term's nodes
+  pub entry-total : {A : Type 0} (op : A → A → A) (u : A) (g : ℕ → ℕ → ℕ → A) → ((a b c : A) → op (op a b) c ≡ op a (op b c)) → ((a : A) → op u a ≡ a)
+      → ((a : A) → op a u ≡ a)
+      → total op u g (nodes (entryAt subject entries e)) (drop (entryPlace entries e) subject) (drop (entryPlace entries e / 2) places)
+      ≡ gathered op u g (en .level) (en .above) (entryAt subject entries e)
+  entry-total op u g assoc left right =
+      let a = entryAt subject entries e in
+      ap (λ (ws : List ℕ). total op u g (nodes a) ws (drop (entryPlace entries e / 2) places)) (en .words)
+      ∙ ap (λ (hs : List ℕ). total op u g (nodes a) (tableOf a ++ en .later) hs) (en .placed-so)
+      ∙ total-is op u g assoc left right a (en .level) (en .above) (en .later) (en .laterPlaces)
+
+  module _ (f : ℕ → Option ℕ) where
+    pub spread-nodes : total _+_ 0 (nodeNodes f (getD places (entryPlace entries e / 2) 0)) (nodes (entryAt subject entries e)) (drop (entryPlace entries e) subject)
+        (drop (entryPlace entries e / 2) places)
+        ≡ spreadNodes f 0 (entryAt subject entries e)
+    spread-nodes =
+        entry-total _+_ 0 _ (λ a b c. omega arith) (λ a. omega arith) (λ a. omega arith)
+        ∙ nodes-at f (entryAt subject entries e) entry-root (omega arith) (en .fits)
+
+    pub spread-depth : total max 0 (nodeDepth f (getD places (entryPlace entries e / 2) 0)) (nodes (entryAt subject entries e)) (drop (entryPlace entries e) subject)
+        (drop (entryPlace entries e / 2) places)
+        ≡ spreadDepth f 0 (entryAt subject entries e)
+    spread-depth =
+        let g = depth-at f (entryAt subject entries e) entry-root (omega arith) (en .fits) in
+        entry-total max 0 _ (λ a b c. omega arith) (λ a. omega arith) (λ a. omega arith) ∙ omega arith
+
+    pub spread-reach : (D : ℕ)
+        → total max 0 (nodeReach f D (getD places (entryPlace entries e / 2) 0)) (nodes (entryAt subject entries e)) (drop (entryPlace entries e) subject)
+        (drop (entryPlace entries e / 2) places)
+        ≡ spreadReach f D 0 (entryAt subject entries e)
+    spread-reach D =
+        entry-total max 0 _ (λ a b c. omega arith) (λ a. omega arith) (λ a. omega arith)
+        ∙ reach-at f D (entryAt subject entries e) entry-root (omega arith) (en .fits)
