@@ -11,7 +11,7 @@ use lib.Seq.{getD-append-add}
 use borrow.Author.Tests.{ltb-true, ltb-false, lt-ltb, le-ltb, le-leb, lt-leb}
 use Rattle.documents.specs.Terms.{Sort, Tm, Var, Sym, Meta, Abst, Nil, Cons, Term, len}
 use Rattle.documents.specs.Tables.{nodeWord, tableOf, Fits, nodes, depth}
-use Rattle.documents.proofs.Lists.{at-cons}
+use Rattle.documents.proofs.Lists.{never, at-cons}
 use Rattle.documents.proofs.Nodes.{nodes-positive}
 use Rattle.trees.specs.Trees.{orOne, orMoved, spreadNodes, spreadDepth, spreadReach}
 use Rattle.survey.specs.Places.{place, placesOf}
@@ -159,3 +159,203 @@ module _ {subject entries places : List ℕ} {e : ℕ} (en : Entered subject ent
     spread-reach D =
         entry-total max 0 _ (λ a b c. omega arith) (λ a. omega arith) (λ a. omega arith)
         ∙ reach-at f D (entryAt subject entries e) entry-root (omega arith) (en .fits)
+
+-- ---- The places of its nodes
+
+-- a place, between the root's and the deepest
+pub record Among (d n deep h : ℕ) : Type 0 where
+  pub levels : ℕ
+  pub inside : ℕ
+  pub is : h ≡ place (d + levels) (n + inside)
+  pub fewer : inside ≤ levels
+  pub higher : levels < deep
+
+among-root : (d n deep : ℕ) → Among d n (suc deep) (place d n)
+among-root d n deep = record { levels = 0; inside = 0; is = omega arith; fewer = omega arith; higher = omega arith }
+
+among-below : {d n m deep h : ℕ} → Among (suc d) m deep h → n ≤ m → m ≤ suc n → Among d n (suc deep) h
+among-below {d} {n} {m} a p q = record {
+  levels = suc (a .levels);
+  inside = m - n + a .inside;
+  is = omega arith;
+  fewer = omega arith;
+  higher = omega arith;
+}
+
+among-deeper : {d n deep more h : ℕ} → Among d n deep h → deep ≤ more → Among d n more h
+among-deeper a p = record { levels = a .levels; inside = a .inside; is = a .is; fewer = a .fewer; higher = omega arith }
+
+pub among : {s : Sort} (d n : ℕ) (t : Tm s) (j : ℕ) → j < nodes t → Among d n (depth t) (getD (placesOf d n t) j 0)
+among d n (Var x) zero h = among-root d n _
+among d n (Var x) (suc j) h = absurd (omega arith)
+among d n (Sym s ts) zero h = among-root d n _
+among d n (Sym s ts) (suc j) h = among-below (among (suc d) n ts j (omega arith)) (omega arith) (omega arith)
+among d n (Meta z ts) zero h = among-root d n _
+among d n (Meta z ts) (suc j) h = among-below (among (suc d) n ts j (omega arith)) (omega arith) (omega arith)
+among d n (Abst t) zero h = among-root d n _
+among d n (Abst t) (suc j) h = among-below (among (suc d) (suc n) t j (omega arith)) (omega arith) (omega arith)
+among d n Nil j h = absurd (omega arith)
+among d n (Cons t ts) j h = go (ltb j (nodes t)) refl (λ k. among d n t j k) (λ k. among d n ts (j - nodes t) k)
+  where
+    go : (q : Bool) → ltb j (nodes t) ≡ q → (j < nodes t → Among d n (depth t) (getD (placesOf d n t) j 0))
+        → (j - nodes t < nodes ts → Among d n (depth ts) (getD (placesOf d n ts) (j - nodes t) 0))
+        → Among d n (max (depth t) (depth ts)) (getD (placesOf d n t ++ placesOf d n ts) j 0)
+    go true q f g =
+        let k = ltb-true j (nodes t) q in
+        let l = length-places d n t in
+        rw (List·getD-append (placesOf d n t) (placesOf d n ts) 0 j (omega arith)) (among-deeper (f k) (omega arith))
+    go false q f g =
+        let k = ltb-false j (nodes t) q in
+        let l = length-places d n t in
+        let z : j ≡ length (placesOf d n t) + (j - nodes t) = omega arith in
+        let e = ap (λ i. getD (placesOf d n t ++ placesOf d n ts) i 0) z ∙ getD-append-add (placesOf d n t) (placesOf d n ts) (j - nodes t) 0 in
+        rw e (among-deeper (g (omega arith)) (omega arith))
+
+-- a node below its entry's root: what a walk needs of its place
+pub record PlaceOf (r h : ℕ) : Type 0 where
+  pub low : r ≤ h
+  pub high : h < 16448
+  pub inside : insideOf r h < 64
+  pub levels : levelsIn r h ≤ 63
+
+module _ {subject entries places : List ℕ} {e : ℕ} (en : Entered subject entries places e) where
+  pub place-of : (j : ℕ) → j < nodes (entryAt subject entries e)
+      → PlaceOf (getD places (entryPlace entries e / 2) 0) (getD (drop (entryPlace entries e / 2) places) j 0)
+  place-of j h =
+      let a = entryAt subject entries e in
+      let l = length-places (en .level) (en .above) a in
+      let z = ap (λ (hs : List ℕ). getD hs j 0) (en .placed-so) ∙ List·getD-append (placesOf (en .level) (en .above) a) (en .laterPlaces) 0 j (omega arith) in
+      let m = among (en .level) (en .above) a j h in
+      rw (z, en .root) (record { low = omega arith; high = omega arith; inside = omega arith; levels = omega arith })
+
+  -- the table holds them all
+  pub places-within : entryPlace entries e / 2 + nodes (entryAt subject entries e) ≤ length places
+  places-within =
+      let a = entryAt subject entries e in
+      let l = length-places (en .level) (en .above) a in
+      let n = nodes-positive a in
+      let z = simp (length-append, length-drop) at (ap (λ (hs : List ℕ). length hs) (en .placed-so)) in
+      omega arith
+
+-- ---- A walk of the nodes
+
+module _ {A : Type 0} (op : A → A → A) (u : A) (g : ℕ → ℕ → ℕ → A) where
+  pub total-none : (ws hs : List ℕ) → total op u g 0 ws hs ≡ u
+  unfolding total
+  total-none ws hs = refl
+
+  -- of words and places from a node on
+  module _ (ws hs : List ℕ) (at i : ℕ) (h : at + 2 ≤ length ws) (l : i < length hs) where
+    pub total-step : (k : ℕ)
+        → total op u g (suc k) (drop at ws) (drop i hs)
+        ≡ op (g (getD ws at 0) (getD ws (at + 1) 0) (getD hs i 0)) (total op u g k (drop (at + 2) ws) (drop (i + 1) hs))
+    unfolding total
+    total-step k =
+        let z : at + 1 + 1 ≡ at + 2 = omega arith in
+        rw (at-cons ws at (omega arith), at-cons ws (at + 1) (omega arith), at-cons hs i l, z)
+
+    -- the same for a number of nodes that is not 0
+    pub total-on : (k : ℕ) → 0 < k
+        → total op u g k (drop at ws) (drop i hs)
+        ≡ op (g (getD ws at 0) (getD ws (at + 1) 0) (getD hs i 0)) (total op u g (k - 1) (drop (at + 2) ws) (drop (i + 1) hs))
+    total-on zero q = absurd (omega arith)
+    total-on (suc k) q = let z : suc k - 1 ≡ k = omega arith in rw z (total-step k)
+
+-- ---- Depths over the limit
+
+abbrev pub cappedIn : Option ℕ → Option ℕ
+cappedIn none = none
+cappedIn (some d) = some (capped d)
+
+capped-of-max : (a b : ℕ) → capped (max a b) ≡ max (capped a) (capped b)
+capped-of-max a b = omega arith
+
+capped-max : (a b c d : ℕ) → capped a ≡ capped c → capped b ≡ capped d → capped (max a b) ≡ capped (max c d)
+capped-max a b c d p q = capped-of-max a b ∙ ap (λ x. max x (capped b)) p ∙ ap (λ x. max (capped c) x) q ∙ sym (capped-of-max c d)
+
+capped-further : (l a b : ℕ) → capped a ≡ capped b → capped (l + a) ≡ capped (l + b)
+capped-further l a b p = omega arith
+
+capped-one : (o : Option ℕ) → capped (orOne o) ≡ capped (orOne (cappedIn o))
+capped-one none = refl
+capped-one (some d) = omega arith
+
+capped-if : (q : Bool) (o : Option ℕ) → capped (cond q 1 (orOne o)) ≡ capped (cond q 1 (orOne (cappedIn o)))
+capped-if true o = refl
+capped-if false o = capped-one o
+
+capped-else : (q : Bool) (o : Option ℕ) → capped (cond q (orOne o) 1) ≡ capped (cond q (orOne (cappedIn o)) 1)
+capped-else true o = capped-one o
+capped-else false o = refl
+
+module _ (f : ℕ → Option ℕ) where
+  pub capped-spread : {s : Sort} (n : ℕ) (t : Tm s) → capped (spreadDepth f n t) ≡ capped (spreadDepth (λ y. cappedIn (f y)) n t)
+  capped-spread n (Var x) = capped-if (ltb x n) (f (x - n))
+  capped-spread n (Sym s ts) = let e = capped-spread n ts in omega arith
+  capped-spread n (Meta z ts) = let e = capped-spread n ts in omega arith
+  capped-spread n (Abst t) = let e = capped-spread (suc n) t in omega arith
+  capped-spread n Nil = refl
+  capped-spread n (Cons t ts) = capped-max _ _ _ _ (capped-spread n t) (capped-spread n ts)
+
+  pub capped-total : (r k : ℕ) (ws hs : List ℕ)
+      → capped (total max 0 (nodeDepth f r) k ws hs) ≡ capped (total max 0 (nodeDepth (λ y. cappedIn (f y)) r) k ws hs)
+  unfolding total
+  capped-total r zero ws hs = refl
+  capped-total r (suc k) [] hs = refl
+  capped-total r (suc k) (w ∷ []) hs = refl
+  capped-total r (suc k) (w ∷ c ∷ ws) [] = refl
+  capped-total r (suc k) (w ∷ c ∷ ws) (h ∷ hs) =
+      capped-max _ _ _ _ (capped-further (levelsIn r h) _ _ (capped-else (isFree w (insideOf r h)) (f (w - insideOf r h)))) (capped-total r k ws hs)
+
+-- ---- Every body was measured
+
+and-both : {a b : Bool} → a ≡ true → b ≡ true → a && b ≡ true
+and-both p q = rw (p, q)
+
+and-first : (a b : Bool) → a && b ≡ true → a ≡ true
+and-first true b e = refl
+and-first false b e = e
+
+and-second : (a b : Bool) → a && b ≡ true → b ≡ true
+and-second true b e = e
+and-second false b e = never (cc)
+
+module _ (s : ℕ → Bool) (r : ℕ) where
+  -- node j of these words and places, if it is a free variable, passes the test
+  abbrev pub Passes : List ℕ → List ℕ → ℕ → Type 0
+  Passes ws hs j =
+      isFree (getD ws (2 * j) 0) (insideOf r (getD hs j 0)) ≡ true → s (getD ws (2 * j) 0 - insideOf r (getD hs j 0)) ≡ true
+
+  seen-if : (q p : Bool) → (q ≡ true → p ≡ true) → cond q p true ≡ true
+  seen-if true p f = f refl
+  seen-if false p f = refl
+
+  if-seen : (q p : Bool) → cond q p true ≡ true → q ≡ true → p ≡ true
+  if-seen true p e h = e
+  if-seen false p e h = never (cc)
+
+  later-node : (w c h : ℕ) (ws hs : List ℕ) (j : ℕ) → Passes (w ∷ c ∷ ws) (h ∷ hs) (suc j) → Passes ws hs j
+  later-node w c h ws hs j f = let z : 2 * suc j ≡ suc (suc (2 * j)) = omega arith in rw z at f
+
+  node-later : (w c h : ℕ) (ws hs : List ℕ) (j : ℕ) → Passes ws hs j → Passes (w ∷ c ∷ ws) (h ∷ hs) (suc j)
+  node-later w c h ws hs j f = let z : 2 * suc j ≡ suc (suc (2 * j)) = omega arith in rw z f
+
+  pub seen-all : (k : ℕ) (ws hs : List ℕ) → ((j : ℕ) → j < k → Passes ws hs j) → total _&&_ true (nodeSeen s r) k ws hs ≡ true
+  unfolding total
+  seen-all zero ws hs f = refl
+  seen-all (suc k) [] hs f = refl
+  seen-all (suc k) (w ∷ []) hs f = refl
+  seen-all (suc k) (w ∷ c ∷ ws) [] f = refl
+  seen-all (suc k) (w ∷ c ∷ ws) (h ∷ hs) f =
+      and-both (seen-if _ _ (f 0 (omega arith))) (seen-all k ws hs (λ j l. later-node w c h ws hs j (f (suc j) (omega arith))))
+
+  pub seen-each : (k : ℕ) (ws hs : List ℕ) → 2 * k ≤ length ws → k ≤ length hs → total _&&_ true (nodeSeen s r) k ws hs ≡ true → (j : ℕ) → j < k
+      → Passes ws hs j
+  unfolding total
+  seen-each zero ws hs m l t j i = absurd (omega arith)
+  seen-each (suc k) [] hs m l t j i = absurd (omega arith)
+  seen-each (suc k) (w ∷ []) hs m l t j i = absurd (omega arith)
+  seen-each (suc k) (w ∷ c ∷ ws) [] m l t j i = absurd (omega arith)
+  seen-each (suc k) (w ∷ c ∷ ws) (h ∷ hs) m l t zero i = if-seen _ _ (and-first (nodeSeen s r w c h) _ t)
+  seen-each (suc k) (w ∷ c ∷ ws) (h ∷ hs) m l t (suc j) i =
+      node-later w c h ws hs j (seen-each k ws hs (omega arith) (omega arith) (and-second (nodeSeen s r w c h) _ t) j (omega arith))
