@@ -1,15 +1,15 @@
 -- What a walk of an entry's nodes adds up is what `Trees` says of the entry's term, and what the walk needs of each node's place.
 use mathlib.Core.Path.{_≡_, refl, sym, ap, _∙_}
-use Prim.Native.Nat.{ℕ, zero, suc, _+_, _-_, _*_, _/_, _%_, _≤_, _<_, min, max}
+use Prim.Native.Nat.{ℕ, zero, suc, _+_, _-_, _*_, _/_, _≤_, _<_, max}
 use native.Mathlib.Omega.{arith}
 use mathlib.Core.Bool.{Bool, true, false, _&&_, cond}
 use mathlib.Core.Option.{Option, none, some}
 use mathlib.Core.List.{List, [], _∷_, _++_}
 use lib.Dec.{leb, ltb}
 use lib.ListN.{length, getD, drop, length-append, length-drop, List·getD-append}
-use lib.Seq.{getD-append-add}
-use borrow.Author.Tests.{ltb-true, ltb-false, lt-ltb, le-ltb, le-leb, lt-leb}
-use Rattle.documents.specs.Terms.{Sort, Tm, Var, Sym, Meta, Abst, Nil, Cons, Term, len}
+use lib.Seq.{getD-append-add, getD-drop}
+use borrow.Author.Tests.{ltb-true, ltb-false, lt-ltb, le-leb, lt-leb}
+use Rattle.documents.specs.Terms.{Sort, Tm, Var, Sym, Meta, Abst, Nil, Cons}
 use Rattle.documents.specs.Tables.{nodeWord, tableOf, Fits, nodes, depth}
 use Rattle.documents.proofs.Lists.{never, at-cons}
 use Rattle.documents.proofs.Nodes.{nodes-positive}
@@ -19,6 +19,7 @@ use Rattle.survey.proofs.Places.{length-places}
 use Rattle.links.specs.Links.{capped}
 use Rattle.links.specs.Nodewise.{isFree, total, levelsIn, insideOf, nodeNodes, nodeDepth, nodeReach, nodeSeen}
 use Rattle.links.specs.Standing.{entryPlace, entryAt}
+use Rattle.links.proofs.Variables.{no-variable}
 use Rattle.links.proofs.Gathered.{gathered, total-is}
 use Rattle.links.proofs.Entered.{Entered}
 
@@ -48,10 +49,6 @@ module _ {r d n i k : ℕ} (b : Below r d n i k) where
 
 -- ---- Its first word
 
-pub named-not-free : (w n : ℕ) → 65536 ≤ w → isFree w n ≡ false
-unfolding isFree
-named-not-free w n h = rw (le-ltb w 65536 h)
-
 -- a variable of a table is free where it is not bound
 pub free-or-bound : {A : Type 0} (w x n : ℕ) (free : ℕ → A) (bound : A) → w ≡ x → x ≤ 65535
     → cond (isFree w n) (free (w - n)) bound ≡ cond (ltb x n) bound (free (x - n))
@@ -60,6 +57,7 @@ free-or-bound {A} w x n free bound e h = rw e (go (ltb x n) refl)
   where
     small : ltb x 65536 ≡ true
     small = lt-ltb x 65536 (omega arith)
+
     go : (q : Bool) → ltb x n ≡ q → cond (ltb x 65536 && leb n x) (free (x - n)) bound ≡ cond q bound (free (x - n))
     go true q = let k = ltb-true x n q in rw (small, lt-leb n x k)
     go false q = let k = ltb-false x n q in rw (small, le-leb n x k)
@@ -72,11 +70,11 @@ nodes-at f (Var x) {k = k} b h fit =
     ap (λ m. cond (isFree (nodeWord 0 x) m) (orOne (f (nodeWord 0 x - m))) 1) (inside-at b)
     ∙ free-or-bound (nodeWord 0 x) x k (λ y. orOne (f y)) 1 (omega arith) fit
 nodes-at f (Sym s ts) {r} {d} {n} b h fit =
-    rw (named-not-free (nodeWord 1 s) (insideOf r (place d n)) (omega arith), nodes-at f ts (below-node b) (omega arith) (fit .2)) (omega arith)
+    rw (← no-variable (nodeWord 1 s) (insideOf r (place d n)) (omega arith), nodes-at f ts (below-node b) (omega arith) (fit .2)) (omega arith)
 nodes-at f (Meta z ts) {r} {d} {n} b h fit =
-    rw (named-not-free (nodeWord 2 z) (insideOf r (place d n)) (omega arith), nodes-at f ts (below-node b) (omega arith) (fit .2)) (omega arith)
+    rw (← no-variable (nodeWord 2 z) (insideOf r (place d n)) (omega arith), nodes-at f ts (below-node b) (omega arith) (fit .2)) (omega arith)
 nodes-at f (Abst t) {r} {d} {n} b h fit =
-    rw (named-not-free (nodeWord 3 0) (insideOf r (place d n)) (omega arith), nodes-at f t (below-abstraction b (omega arith)) (omega arith) fit) (omega arith)
+    rw (← no-variable (nodeWord 3 0) (insideOf r (place d n)) (omega arith), nodes-at f t (below-abstraction b (omega arith)) (omega arith) fit) (omega arith)
 nodes-at f Nil b h fit = refl
 nodes-at f (Cons t ts) b h fit = rw (nodes-at f t b (omega arith) (fit .0), nodes-at f ts b (omega arith) (fit .1))
 
@@ -91,13 +89,13 @@ depth-at f (Var x) {r} {d} {n} {i} {k} b h fit =
     rw (levels-at b, e) (omega arith)
 depth-at f (Sym s ts) {r} {d} {n} b h fit =
     let g = depth-at f ts (below-node b) (omega arith) (fit .2) in
-    rw (named-not-free (nodeWord 1 s) (insideOf r (place d n)) (omega arith), levels-at b) (omega arith)
+    rw (← no-variable (nodeWord 1 s) (insideOf r (place d n)) (omega arith), levels-at b) (omega arith)
 depth-at f (Meta z ts) {r} {d} {n} b h fit =
     let g = depth-at f ts (below-node b) (omega arith) (fit .2) in
-    rw (named-not-free (nodeWord 2 z) (insideOf r (place d n)) (omega arith), levels-at b) (omega arith)
+    rw (← no-variable (nodeWord 2 z) (insideOf r (place d n)) (omega arith), levels-at b) (omega arith)
 depth-at f (Abst t) {r} {d} {n} b h fit =
     let g = depth-at f t (below-abstraction b (omega arith)) (omega arith) fit in
-    rw (named-not-free (nodeWord 3 0) (insideOf r (place d n)) (omega arith), levels-at b) (omega arith)
+    rw (← no-variable (nodeWord 3 0) (insideOf r (place d n)) (omega arith), levels-at b) (omega arith)
 depth-at f Nil b h fit = omega arith
 depth-at f (Cons t ts) b h fit =
     let g = depth-at f t b (omega arith) (fit .0) in
@@ -112,11 +110,11 @@ reach-at f D (Var x) {k = k} b h fit =
     ∙ ap (λ v. cond (isFree v k) (orMoved (f (v - k)) D k v) 0) w
     ∙ free-or-bound x x k (λ y. orMoved (f y) D k x) 0 refl fit
 reach-at f D (Sym s ts) {r} {d} {n} b h fit =
-    rw (named-not-free (nodeWord 1 s) (insideOf r (place d n)) (omega arith), reach-at f D ts (below-node b) (omega arith) (fit .2)) (omega arith)
+    rw (← no-variable (nodeWord 1 s) (insideOf r (place d n)) (omega arith), reach-at f D ts (below-node b) (omega arith) (fit .2)) (omega arith)
 reach-at f D (Meta z ts) {r} {d} {n} b h fit =
-    rw (named-not-free (nodeWord 2 z) (insideOf r (place d n)) (omega arith), reach-at f D ts (below-node b) (omega arith) (fit .2)) (omega arith)
+    rw (← no-variable (nodeWord 2 z) (insideOf r (place d n)) (omega arith), reach-at f D ts (below-node b) (omega arith) (fit .2)) (omega arith)
 reach-at f D (Abst t) {r} {d} {n} b h fit =
-    rw (named-not-free (nodeWord 3 0) (insideOf r (place d n)) (omega arith), reach-at f D t (below-abstraction b (omega arith)) (omega arith) fit) (omega arith)
+    rw (← no-variable (nodeWord 3 0) (insideOf r (place d n)) (omega arith), reach-at f D t (below-abstraction b (omega arith)) (omega arith) fit) (omega arith)
 reach-at f D Nil b h fit = refl
 reach-at f D (Cons t ts) b h fit = rw (reach-at f D t b (omega arith) (fit .0), reach-at f D ts b (omega arith) (fit .1))
 
@@ -227,6 +225,14 @@ module _ {subject entries places : List ℕ} {e : ℕ} (en : Entered subject ent
       let z = ap (λ (hs : List ℕ). getD hs j 0) (en .placed-so) ∙ List·getD-append (placesOf (en .level) (en .above) a) (en .laterPlaces) 0 j (omega arith) in
       let m = among (en .level) (en .above) a j h in
       rw (z, en .root) (record { low = omega arith; high = omega arith; inside = omega arith; levels = omega arith })
+
+  -- the same by the place in the whole table
+  pub place-at : (i : ℕ) → entryPlace entries e / 2 ≤ i → i < entryPlace entries e / 2 + nodes (entryAt subject entries e)
+      → PlaceOf (getD places (entryPlace entries e / 2) 0) (getD places i 0)
+  place-at i h l =
+      let z : entryPlace entries e / 2 + (i - entryPlace entries e / 2) ≡ i = omega arith in
+      let g = getD-drop (entryPlace entries e / 2) places (i - entryPlace entries e / 2) 0 ∙ ap (λ j. getD places j 0) z in
+      rw g at (place-of (i - entryPlace entries e / 2) (omega arith))
 
   -- the table holds them all
   pub places-within : entryPlace entries e / 2 + nodes (entryAt subject entries e) ≤ length places
