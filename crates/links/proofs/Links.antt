@@ -51,3 +51,7 @@ note-nodes n r h = omega arith
 pub note-reach : (n r : ℕ) → n < 8192 → reachIn (noteOf n r) ≡ r
 unfolding noteOf reachIn
 note-reach n r h = omega arith
+
+pub before-low : (w : ℕ) → beforeIn w < 4096
+unfolding beforeIn
+before-low w = omega arith

@@ -27,7 +27,7 @@ pub fn over(link: u32) -> usize
 }
 
 pub fn depth(link: u32) -> u32
-    ensures { λ r. ⌜ r ≡ depthIn link ⌝ }
+    ensures { λ r. ⌜ (r ≡ depthIn link) × (r ≤ 255) ⌝ }
 {
     link / PLACES / PLACES
 }

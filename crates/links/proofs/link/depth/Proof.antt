@@ -7,7 +7,7 @@ use Rattle.links.proofs.link.depth.Lts as lts
 
 -- src/link.rt:29:1
 returns : tie.Need-returns
-returns c = depth-is _
+returns c = (depth-is _, search needs)
 
 pub depth-spec : {M : Type 1} → statement M
 depth-spec = tie.close (tie.spec returns)
