@@ -7,3 +7,4 @@ pub mod Ran
 pub mod Checked
 pub mod Safe
 pub mod Spread
+pub mod Keyed
