@@ -5,15 +5,16 @@ use Prim.Native.Nat.{ℕ, zero, suc, _+_, _-_, _≤_}
 use native.Mathlib.Omega.{arith}
 use mathlib.Core.Bool.{Bool, true, false, cond}
 use mathlib.Core.Option.{Option, none, some}
-use mathlib.Core.List.{List, _∷_}
+use mathlib.Core.List.{List, [], _∷_}
 use lib.Dec.{eqb}
 use lib.ListN.{length, getD}
 use borrow.Author.Tests.{eqb-true}
 use Rattle.documents.specs.Lists.{assoc, pairlists}
 use Rattle.documents.specs.Terms.{Term}
-use Rattle.documents.specs.Instructions.{Bodies, keys}
+use Rattle.documents.specs.Instructions.{Program, Bodies, keys}
 use Rattle.documents.proofs.Lists.{never}
-use Rattle.trees.specs.Trees.{More, count, grown, nodesOf, depthOf, reachOf}
+use Rattle.instructions.specs.Places.{programAt}
+use Rattle.trees.specs.Trees.{More, count, topOf, grown, nodesOf, depthOf, reachOf}
 use Rattle.links.specs.Bodies.{bodyEnd, Readable, keyPlace, placeBehind}
 use Rattle.links.specs.Sequences.{treeIn, treeAt, Sequenced, Bodied, keysAt, treesAt}
 use Rattle.links.proofs.Ran.{Held, HeldNext, held-next, held-none}
@@ -141,10 +142,14 @@ unfolding treesAt
 count-trees t q zero = refl
 count-trees t q (suc c) = let h = count-trees t (bodyEnd t q) c in omega arith
 
--- ---- Bodies that were read are those at their places
+-- ---- What was read is what stands at its place
+
+pub tree-here : (t : List ℕ) (a e : ℕ) {c : Program} → programAt t a e ≡ some c → treeAt t a e ≡ topOf (grown c [])
+unfolding treeAt
+tree-here t a e h = ap treeIn h
 
 pub held-trees : {t : List ℕ} {q e E n : ℕ} {b : Bodies} → Held t q e E n b → e ≤ length t → (keys b ≡ keysAt t q n) × (grown b ≡ treesAt t q n) × Bodied t q n E
-unfolding treeAt keysAt treesAt
+unfolding keysAt treesAt
 held-trees {n = zero} s hi =
     let z = held-none s refl in
     let l = s .within in
@@ -156,6 +161,6 @@ held-trees {t} {q} {e} {E} {n = suc k} {b} s hi =
     let i = r .inside in
     let o = held-trees (r .behind) hi in (
       ap keys (r .is) ∙ ap (λ l. getD t q 0 ∷ l) (o .0),
-      ap (λ (a : Bodies). grown a) (r .is) ∙ ap₂ More (sym (ap treeIn (i .here))) (o .1),
+      ap (λ (a : Bodies). grown a) (r .is) ∙ ap₂ More (sym (tree-here t (q + 2) (bodyEnd t q) (i .here))) (o .1),
       (omega arith, record { program = r .body; here = i .here; runs = i .runs }, o .2),
     )

@@ -37,7 +37,7 @@ left-safe l zero ps h = h
 left-safe l (suc n) [] h = tt
 left-safe l (suc n) (p ∷ ps) h = left-safe l n ps (h .1)
 
-count-taken : (n : ℕ) (qs : Tree many) (ps : List (Tree one)) → n ≤ length ps → count (taken n qs ps) ≡ count qs + n
+pub count-taken : (n : ℕ) (qs : Tree many) (ps : List (Tree one)) → n ≤ length ps → count (taken n qs ps) ≡ count qs + n
 count-taken zero qs ps h = omega arith
 count-taken (suc n) qs [] h = absurd (not-suc-le-zero h)
 count-taken (suc n) qs (p ∷ ps) h = let k = count-taken n (More p qs) ps (le-of-suc-le-suc h) in omega arith
