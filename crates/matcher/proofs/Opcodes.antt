@@ -261,9 +261,6 @@ module _ {code subject entries : List ℕ} {at top owed made : ℕ} (m : Midway 
         let w = walking-term (m .walking) (positive m next-read) .walk .within in
         omega arith
 
-    pub next-positive : 0 < owed
-    next-positive = positive m next-read
-
     pub next-begins : Begins 1 (from top subject)
     next-begins = rw (from-drop top subject) (begins-one m next-read)
 
@@ -328,9 +325,6 @@ module _ {code subject entries : List ℕ} {at top owed made : ℕ} (m : Midway 
     pub check-begins : Begins 1 (from top subject)
     check-begins = rw (from-drop top subject) (begins-one m check-read)
 
-    pub check-room : top + 2 ≤ length subject
-    check-room = top-room m check-read
-
     span : at + 2 + getD code (at + 1) 0 - (at + 2) ≡ getD code (at + 1) 0
     span = omega arith
 
@@ -364,9 +358,6 @@ module _ {code subject entries : List ℕ} {at top owed made : ℕ} (m : Midway 
     eqvar-asked : (ltb (getD code (at + 1) 0) (top-is m eqvar-read .d) ≡ true)
         × (some (matching (top-is m eqvar-read .d ∷ top-is m eqvar-read .below) (m .es) []) ≡ some (eqvar-read .after))
     eqvar-asked = needed (ltb (getD code (at + 1) 0) (top-is m eqvar-read .d)) _ _ (top-is m eqvar-read .goes)
-
-    pub eqvar-room : top + 2 ≤ length subject
-    eqvar-room = top-room m eqvar-read
 
     variable : isVar (getD code (at + 1) 0) (front (drop top subject)) ≡ eqb (getD subject top 0) (getD code (at + 1) 0)
     variable =

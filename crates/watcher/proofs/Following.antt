@@ -1,18 +1,18 @@
 -- The match part of a watch, and the counts: what the first i instructions come to is what those still to come come to from the state that is
 -- held. Where none is left, and where the build part begins, the counts of the machine's state are the ones that are given back.
-use mathlib.Core.Path.{_≡_, refl, sym, ap, ap₂, _∙_}
-use Prim.Native.Nat.{ℕ, zero, suc, _+_, _-_, _/_, _≤_, _<_}
+use mathlib.Core.Path.{_≡_, refl, sym, ap, _∙_}
+use Prim.Native.Nat.{ℕ, zero, suc, _-_, _/_, _≤_, _<_}
 use native.Mathlib.Omega.{arith}
 use mathlib.Core.Bool.{Bool, true, false, _&&_}
 use mathlib.Core.Option.{some}
-use mathlib.Core.List.{List, [], _∷_, map}
+use mathlib.Core.List.{List, [], _∷_}
 use lib.Dec.{leb}
-use lib.ListN.{length, getD, drop, length-append, length-map}
+use lib.ListN.{length, getD, drop}
 use borrow.Author.Tests.{leb-true}
 use Rattle.documents.specs.declared.Refusal.{Refusal}
 use Rattle.documents.specs.declared.Refusal.the-variants.{DoesNotPass, MatchFails}
 use Rattle.documents.specs.Limits.{codeLimit}
-use Rattle.documents.specs.Terms.{Cons, Term, Terms, rename}
+use Rattle.documents.specs.Terms.{Cons, Term, Terms}
 use Rattle.documents.specs.Tables.{nodes}
 use Rattle.documents.specs.Instructions.{_▸_, Instruction, Program, programIn}
 use Rattle.documents.specs.Machine.{current, State, done, fails, exec, run, first}
@@ -28,12 +28,11 @@ use Rattle.tables.specs.Answers.{sized}
 use Rattle.tables.proofs.Parts.{passed}
 use Rattle.tables.proofs.Walks.{walking-ended}
 use Rattle.tables.proofs.Accepted.{table-begins}
-use Rattle.kahrs.proofs.RightSide.{offsetOf}
 use Rattle.safety.proofs.Entries.{entries-length}
-use Rattle.safety.proofs.Building.{Blocks, laid, opened, builds-as-checked}
+use Rattle.safety.proofs.Building.{laid, builds-as-checked}
 use Rattle.safety.proofs.Matching.{currents-length}
 use Rattle.safety.proofs.NeverStuck.{passing-obeys}
-use Rattle.safety.proofs.Counts.{total}
+use Rattle.safety.proofs.Counts.{total, length-laid}
 use Rattle.checker.specs.declared.Checked.{Checked}
 use Rattle.checker.specs.declared.Checked.the-variants as checked
 use Rattle.checker.specs.Matched.{verdict}
@@ -61,9 +60,6 @@ first-none rest σ zero h = refl
 first-none rest σ (suc left) h = absurd (omega arith)
 
 -- ---- what a watch comes to
-
-some-is : {A : Type 0} {a b : A} → some a ≡ some b → a ≡ b
-some-is e = cc
 
 module _ (code subject : List ℕ) (i : ℕ) where
   pub watch-unchecked : {r : Checked} {w : Refusal} → r ≡ verdict (passes code) → r ≡ checked.Refused w → watched.Refused DoesNotPass ≡ asWatched (watches code subject i)
@@ -188,12 +184,6 @@ module _ {code subject entries : List ℕ} {i at top owed made left : ℕ} (f : 
       total-is = refl;
       few = omega arith;
     }
-
-    length-laid : (off : ℕ) (nst : List ℕ) (B : Blocks) → length (laid off nst B []) ≡ total (map length B)
-    length-laid off nst [] = refl
-    length-laid off nst (us ∷ B) =
-        length-append (map (rename (offsetOf off (opened B nst))) us) (laid off nst B [])
-        ∙ ap₂ _+_ (length-map us (rename (offsetOf off (opened B nst)))) (length-laid off nst B)
 
     pub following-built : {n : ℕ} (p : passes code ≡ true) → subjectIn subject ≡ answered (front subject) → Finishes code at left n
         → watched.Counts 0 made n (top / 2) ≡ asWatched (watches code subject i)
