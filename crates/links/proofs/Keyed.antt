@@ -64,11 +64,6 @@ unfolding placeBehind
 behind-low code q zero = omega arith
 behind-low code q (suc c) = let h = behind-low code (bodyEnd code q) c in omega arith
 
-pub readable-behind : (code : List ℕ) (q c : ℕ) → Readable code q c → placeBehind code q c ≤ length code
-unfolding placeBehind
-readable-behind code q zero r = r
-readable-behind code q (suc c) r = readable-behind code (bodyEnd code q) c (r .1)
-
 pub key-at : (code : List ℕ) (q c y k : ℕ) → keyPlace code q c y ≡ some k → KeyAt code q c y k
 unfolding placeBehind keysAt treesAt
 key-at code q zero y k e = no-keys code q y e
@@ -126,9 +121,6 @@ body-at code q (suc c) y k E b e =
 pub bodied-readable : (code : List ℕ) (q c E : ℕ) → Bodied code q c E → Readable code q c
 bodied-readable code q zero E b = b
 bodied-readable code q (suc c) E b = (b .0, bodied-readable code (bodyEnd code q) c E (b .2))
-
-pub bodied-behind : (code : List ℕ) (q c E : ℕ) → Bodied code q c E → (q ≤ placeBehind code q c) × (placeBehind code q c ≤ length code)
-bodied-behind code q c E b = (behind-low code q c, readable-behind code q c (bodied-readable code q c E b))
 
 -- ---- As many keys and trees as bodies
 

@@ -110,7 +110,7 @@ pub held-count : {t : List ℕ} {q e E n : ℕ} {b : Bodies} → Held t q e E n 
 held-count {t} {q} {e} {E} {n} {b} s = bodies-count _ 0 (e - q) n b (s .left) (s .here)
 
 pub held-readable : {t : List ℕ} {q e E n : ℕ} {b : Bodies} → Held t q e E n b → e ≤ length t → Readable t q n
-held-readable {n = zero} s hi = let l = s .within in omega arith
+held-readable {n = zero} s hi = tt
 held-readable {n = suc k} s hi =
     let r = held-suc s hi in
     let l = r .within in

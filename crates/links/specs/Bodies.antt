@@ -14,7 +14,7 @@ bodyEnd t q = q + 2 + getD t (q + 1) 0
 
 -- c bodies from q on lie within the code
 abbrev pub Readable : List ℕ → ℕ → ℕ → Type 0
-Readable t q zero = q ≤ length t
+Readable t q zero = Unit {0}
 Readable t q (suc c) = (bodyEnd t q ≤ length t) × Readable t (bodyEnd t q) c
 
 -- where the first of c keys from q on stands that is y

@@ -60,7 +60,7 @@ pub record Sequenced (t : List ℕ) (a e E : ℕ) : Type 0 where
 
 -- c bodies from place q on that make one each
 abbrev pub Bodied : List ℕ → ℕ → ℕ → ℕ → Type 0
-Bodied t q zero E = q ≤ length t
+Bodied t q zero E = Unit {0}
 Bodied t q (suc c) E = (bodyEnd t q ≤ length t) × Sequenced t (q + 2) (bodyEnd t q) E × Bodied t (bodyEnd t q) c E
 
 -- their keys, and their trees

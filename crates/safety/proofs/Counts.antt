@@ -58,7 +58,7 @@ Counted p (state cs env st off nst) = (length cs ≡ currentCount p) × (length 
 
 -- ---- The build part
 
-length-laid : (off : ℕ) (nst : List ℕ) (B : Blocks) → length (laid off nst B []) ≡ total (map length B)
+pub length-laid : (off : ℕ) (nst : List ℕ) (B : Blocks) → length (laid off nst B []) ≡ total (map length B)
 length-laid off nst [] = refl
 length-laid off nst (us ∷ B) =
     length-append (map (rename (offsetOf off (opened B nst))) us) (laid off nst B [])

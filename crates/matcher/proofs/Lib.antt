@@ -1,0 +1,4 @@
+pub mod Places
+pub mod Stepping
+pub mod Opcodes
+pub mod Whole

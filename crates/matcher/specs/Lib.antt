@@ -1,0 +1,2 @@
+pub mod Midway
+pub mod Ready

@@ -1,0 +1,48 @@
+-- What the match part leaves to the build part.
+use mathlib.Core.Path.{_≡_}
+use Prim.Native.Nat.{ℕ, _-_, _*_, _≤_, _<_}
+use mathlib.Core.Bool.{false, cond}
+use mathlib.Core.Option.{some}
+use mathlib.Core.List.{List, [], _∷_}
+use lib.Dec.{T, ltb}
+use lib.ListN.{length, getD, drop}
+use Rattle.documents.specs.declared.Refusal.the-variants.{MatchFails}
+use Rattle.documents.specs.Terms.{Var, Term}
+use Rattle.documents.specs.Tables.{subterm}
+use Rattle.documents.specs.Instructions.{Program, programIn}
+use Rattle.documents.specs.Machine.{Entry, state, fails, exec, run}
+use Rattle.documents.specs.Passing.{Slot, oneTerm, build}
+use Rattle.tables.specs.Parts.{front}
+use Rattle.instructions.specs.Places.{programAt}
+use Rattle.safety.proofs.Entries.{EntriesOk}
+use Rattle.trees.specs.Trees.{entryOf}
+use Rattle.matcher.specs.declared.Matched.{Matched}
+use Rattle.matcher.specs.declared.Matched.the-variants as matched
+
+-- the term of entry e, counted from the newest: its word place stands in a table, the newest last
+abbrev pub entryAt : List ℕ → List ℕ → ℕ → ℕ → Term
+entryAt subject entries made e = cond (ltb e made) (front (drop (getD entries (made - 1 - e) 0) subject)) (Var 0)
+
+pub record Ready (code subject entries : List ℕ) (c : Program) (at made : ℕ) : Type 0 where
+  pub rest : Program
+  pub env : List Entry
+  pub es : List Slot
+  pub inside : at < length code
+  pub here : programAt code at (length code) ≡ some rest
+  pub goes : run c (front subject) ≡ exec rest (state [] env [] 0 [])
+  pub checked : T (oneTerm (build es false 0 0 rest (0 ∷ [])))
+  pub ok : EntriesOk (λ x. Unit {0}) es env
+  pub few : made ≤ 16
+  pub count : length env ≡ made
+  pub terms : (e : ℕ) → entryOf env e ≡ entryAt subject entries made e
+  pub stands : (e : ℕ) → e < made → (m : ℕ) × (getD entries (made - 1 - e) 0 ≡ 2 * m) × (subterm (front subject) m ≡ some (entryOf env e))
+
+module _ (code subject entries : List ℕ) (c : Program) where
+  -- the match fails, or the build part begins
+  abbrev pub ComesTo : Matched → Type 0
+  ComesTo (matched.Build at made) = Ready code subject entries c at made
+  ComesTo (matched.Refused w) = (w ≡ MatchFails) × (run c (front subject) ≡ fails)
+
+-- with the code's program
+pub record Comes (code subject entries : List ℕ) (r : Matched) : Type 0 where
+  pub means : (c : Program) → programIn code ≡ some c → ComesTo code subject entries c r

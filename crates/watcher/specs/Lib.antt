@@ -1,0 +1,2 @@
+pub mod Watching
+pub mod Counting
