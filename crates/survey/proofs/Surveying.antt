@@ -5,29 +5,29 @@ use Prim.Native.Nat.{ℕ, zero, suc, _+_, _-_, _*_, _/_, _%_, _≤_, _<_, max}
 use native.Mathlib.Nat.{add-zero}
 use native.Mathlib.Numerals.{add-one}
 use native.Mathlib.Omega.{arith}
-use mathlib.Core.Bool.{Bool, true, false, _&&_, cond}
+use mathlib.Core.Bool.{Bool, true, false, not, _&&_, _||_, cond, and-false}
 use mathlib.Core.List.{List, [], _∷_, _++_, append-assoc, append-nil}
 use lib.Dec.{eqb, leb, ltb, leb·suc-suc}
 use lib.ListN.{length, take, drop, getD, set, replicate, length-set}
 use lib.Seq.{length-take-le, getD-set-same, getD-set-other, take-suc-set, append-snoc}
-use borrow.Author.Tests.{le-leb, lt-leb, lt-ltb, le-ltb, ltb-true, ltb-false, eq-eqb, ne-eqb}
+use borrow.Author.Tests.{leb-true, leb-false, le-leb, lt-leb, lt-ltb, le-ltb, ltb-true, ltb-false, eqb-true, eqb-false, eq-eqb, ne-eqb}
 use Rattle.documents.specs.Limits.{planLimit, depthLimit}
 use Rattle.documents.specs.Lists.{isEmpty}
 use Rattle.documents.specs.Terms.{many, Var, Sym, Meta, Abst, Nil, Cons, Term, Terms, len}
-use Rattle.documents.specs.Tables.{nodes, depth}
+use Rattle.documents.specs.Tables.{termsIn, nodes, depth}
 use Rattle.documents.specs.Rules.{metas}
 use Rattle.documents.specs.Numbers.{tableIn, subjectIn}
 use Rattle.documents.proofs.Lists.{never, and-assoc, and-true}
 use Rattle.tables.specs.declared.accept.Sized.the-variants.{Nodes, Refused}
-use Rattle.tables.specs.Answers.{sized, isGood}
+use Rattle.tables.specs.Answers.{sized, isGood, inLayout}
 use Rattle.tables.specs.Parts.{held, firstTerms, terms, front, Begins}
 use Rattle.tables.proofs.Parts.{only, headed, Shape, Opened, opened, front-term, begins-less, no-terms}
 use Rattle.tables.proofs.Walks.{Walk, walk-from, walk-on, ended}
 use Rattle.tables.proofs.Sides.{metas-front, metas-here, metas-behind}
-use Rattle.tables.proofs.Accepted.{listed, listed-set, depth-headed, leb-max, first-arguments, drop-arguments, depth-positive, good-begins, accept-long, accept-bad, accept-deep, accept-good, accepted-table, subject-refused, subject-metavariable, subject-plain}
+use Rattle.tables.proofs.Accepted.{layout-narrow, holds, good-start, good-node, good-outside, good-more, good-odd, good-end, listed, listed-set, depth-headed, leb-max, first-arguments, drop-arguments, depth-positive, good-begins, accept-long, accept-bad, accept-deep, accept-good, accepted-table, subject-refused, subject-metavariable, subject-plain}
 use Rattle.documents.specs.declared.Refusal.{Refusal}
 use Rattle.survey.proofs.Places.{length-places}
-use Rattle.survey.specs.Places.{place, placesOf, Surveyed, below, levels}
+use Rattle.survey.specs.Places.{place, placesOf, Surveyed, Unfit, beyond, wholeOf, below, levels}
 use Rattle.documents.specs.declared.Refusal.the-variants as refusal
 
 -- ---- Levels
@@ -152,6 +152,59 @@ module _ {kind s c : ℕ} {us vs : List Term} (o : Opened kind s c us vs) (n d :
       )
       (sym (and-assoc (leb (x + suc d) 65) (leb (y + d) 65) (shallowAt ws (drop n (o .rest)))))
 
+-- ---- The tests of the code
+
+no-metavariable : (word : ℕ) → (131072 ≤ word → word < 196608 → ⊥) → leb 131072 word && ltb word 196608 ≡ false
+no-metavariable word m = go (leb 131072 word) (ltb word 196608) (leb-true 131072 word) (ltb-true word 196608)
+  where
+    go : (x y : Bool) → (x ≡ true → 131072 ≤ word) → (y ≡ true → word < 196608) → x && y ≡ false
+    go true true f g = absurd (m (f refl) (g refl))
+    go true false f g = refl
+    go false y f g = refl
+
+module _ (word count here : ℕ) where
+  pub beyond-metavariable : 131072 ≤ word → word < 196608 → beyond word count here ≡ true
+  unfolding beyond
+  beyond-metavariable lo hi = rw (le-leb 131072 word lo, lt-ltb word 196608 hi) refl
+
+  pub beyond-leaf : (131072 ≤ word → word < 196608 → ⊥) → count ≡ 0 → beyond word count here ≡ false
+  unfolding beyond
+  beyond-leaf m z = rw (no-metavariable word m, eq-eqb count 0 z) refl
+
+  pub beyond-inner : (131072 ≤ word → word < 196608 → ⊥) → (count ≡ 0 → ⊥) → beyond word count here ≡ leb 16384 here
+  unfolding beyond
+  beyond-inner m c = rw (no-metavariable word m, ne-eqb count 0 c) refl
+
+  -- what a node that is not beyond is
+  pub within-plain : beyond word count here ≡ false → 131072 ≤ word → word < 196608 → ⊥
+  within-plain e lo hi = let q : true ≡ false = sym (beyond-metavariable lo hi) ∙ e in never (cc)
+
+  pub within-deep : beyond word count here ≡ false → (count ≡ 0 → ⊥) → here < 16384
+  within-deep e c = leb-false 16384 here (sym (beyond-inner (within-plain e) c) ∙ e)
+
+  beyond-cases : {P : Type 0} → beyond word count here ≡ true → (131072 ≤ word → word < 196608 → P) → ((count ≡ 0 → ⊥) → 16384 ≤ here → P) → P
+  unfolding beyond
+  beyond-cases {P} e f g = go (leb 131072 word) (ltb word 196608) (eqb count 0) (leb 16384 here) (leb-true 131072 word) (ltb-true word 196608) (eqb-false count 0) (leb-true 16384 here) e
+    where
+      go : (x y z u : Bool) → (x ≡ true → 131072 ≤ word) → (y ≡ true → word < 196608) → (z ≡ false → count ≡ 0 → ⊥) → (u ≡ true → 16384 ≤ here)
+          → (x && y) || (not z && u) ≡ true → P
+      go true true z u a b k d e = f (a refl) (b refl)
+      go true false false true a b k d e = g (k refl) (d refl)
+      go true false false false a b k d e = never (cc)
+      go true false true u a b k d e = never (cc)
+      go false y false true a b k d e = g (k refl) (d refl)
+      go false y false false a b k d e = never (cc)
+      go false y true u a b k d e = never (cc)
+
+module _ (words n : ℕ) where
+  pub whole-all : words ≡ 2 * n → wholeOf words n ≡ Nodes n
+  unfolding wholeOf
+  whole-all e = rw (eq-eqb words (2 * n) e) refl
+
+  pub whole-more : (words ≡ 2 * n → ⊥) → wholeOf words n ≡ Refused refusal.TableNotGood
+  unfolding wholeOf
+  whole-more e = rw (ne-eqb words (2 * n) e) refl
+
 pub below-abstraction : (here word : ℕ) → word ≡ 196608 → below here word ≡ here + 257
 unfolding below
 below-abstraction here word e = rw (eq-eqb word 196608 e) refl
@@ -187,6 +240,41 @@ below-binds here word o = go (word / 65536) refl (o .shape)
     go (suc (suc (suc zero))) e h = let z = h .0 in rw (eq-eqb word 196608 (omega arith)) (omega arith)
     go (suc (suc (suc (suc kind)))) e h = absurd h
 
+-- the level of a node's arguments
+down-level : (w v c b : ℕ) → v ≡ c * 65536 + (w % 65536 + 256 + b) → b ≤ 1 → w % 65536 < 16384 → underAt w < depthAt w
+    → (owed v ≡ c) × (depthAt v ≡ suc (depthAt w)) × (underAt v ≡ underAt w + b)
+down-level w v c b e h k o = (omega arith, omega arith, omega arith)
+
+below-some : (here word : ℕ) → (b : ℕ) × (b ≤ 1) × (below here word ≡ here + 256 + b)
+unfolding below
+below-some here word = go (eqb word 196608)
+  where
+    go : (q : Bool) → (b : ℕ) × (b ≤ 1) × (cond q (here + 257) (here + 256) ≡ here + 256 + b)
+    go true = (1, omega arith, omega arith)
+    go false = (0, omega arith, omega arith)
+
+module _ (w : ℕ) (ws : List ℕ) (o : Ordered (w ∷ ws)) where
+  leaf-owing : (c : ℕ) → c ≡ 0 → owing (behind w ws) ≡ owing (w ∷ ws) - 1 + c
+  leaf-owing c z = let h = o .0 in let b = behind-owing w ws h in omega arith
+
+  down-ordered : (c word : ℕ) → w % 65536 < 16384 → 0 < c
+      → Ordered ((c * 65536 + below (w % 65536) word) ∷ behind w ws) × (owing ((c * 65536 + below (w % 65536) word) ∷ behind w ws) ≡ owing (w ∷ ws) - 1 + c)
+  down-ordered c word p z =
+      let b = below-some (w % 65536) word in
+      let v = c * 65536 + below (w % 65536) word in
+      let l = down-level w v c (b .0) (ap (λ (x : ℕ). c * 65536 + x) (b .2)) (b .1) p (o .3) in
+      let r = behind-ordered w ws (o .0) o in
+      let q = behind-owing w ws (o .0) in
+      go v (l .0) (l .1) (l .2) (b .1) (r .1) q
+    where
+      go : (v : ℕ) {b : ℕ} → owed v ≡ c → depthAt v ≡ suc (depthAt w) → underAt v ≡ underAt w + b → b ≤ 1 → length (behind w ws) ≤ suc (length ws) → owing (behind w ws) ≡ owed w - 1 + owing ws
+          → Ordered (v ∷ behind w ws) × (owing (v ∷ behind w ws) ≡ owing (w ∷ ws) - 1 + c)
+      go v a d u k n q =
+          let h = o .0 in
+          let i = o .1 in
+          let j = o .3 in
+          ((omega arith, omega arith, omega arith, omega arith, behind-ordered w ws (o .0) o .0), omega arith)
+
 -- ---- Where the walk stands
 
 pub record Standing (subject places : List ℕ) (node : ℕ) (ws : List ℕ) : Type 0 where
@@ -214,11 +302,6 @@ standing-from subject places b =
 stored : (places : List ℕ) (node w p : ℕ) (rest all : List ℕ) → node < length places → w ≡ p → take node places ++ (p ∷ rest) ≡ all
     → take (node + 1) (set places node w) ++ rest ≡ all
 stored places node w p rest all h e t = rw (add-one node, take-suc-set places node w h, append-assoc (take node places) (w ∷ []) rest, e) t
-
--- the level of a node's arguments
-down-level : (w v c b : ℕ) → v ≡ c * 65536 + (w % 65536 + 256 + b) → b ≤ 1 → w % 65536 < 16384 → underAt w < depthAt w
-    → (owed v ≡ c) × (depthAt v ≡ suc (depthAt w)) × (underAt v ≡ underAt w + b)
-down-level w v c b e h k o = (omega arith, omega arith, omega arith)
 
 some-depth : (n : ℕ) (us : List Term) → 0 < n → n ≤ length us → 0 < depth (firstTerms n us)
 some-depth zero us h k = absurd (omega arith)
@@ -285,20 +368,17 @@ module _ {subject places : List ℕ} {node here : ℕ} {ws : List ℕ} (s : Stan
   standing-leaf : node < length places → (131072 ≤ word → word < 196608 → ⊥) → count ≡ 0
       → Standing subject (set places node (here % 65536)) (node + 1) (behind here ws)
   standing-leaf h m z =
-      let o = s .ordered .0 in
-      let b = behind-owing here ws o in
-      onward (behind here ws) m (omega arith) (rw z at (noted h)) (rw (z, le-leb (0 + suc (depthAt here)) 65 (let q = s .ordered .2 in omega arith)) at looked) (behind-ordered here ws o (s .ordered) .0)
+      let o = s .ordered in
+      onward (behind here ws) m (leaf-owing here ws o count z) (rw z at (noted h))
+      (rw (z, le-leb (0 + suc (depthAt here)) 65 (let q = o .2 in omega arith)) at looked) (behind-ordered here ws (o .0) o .0)
 
-  standing-down : node < length places → (131072 ≤ word → word < 196608 → ⊥) → here % 65536 < 16384 → 0 < count → (v : ℕ) → v ≡ count * 65536 + below (here % 65536) word
-      → Standing subject (set places node (here % 65536)) (node + 1) (v ∷ behind here ws)
-  standing-down h m p z v e =
-      let o = s .ordered .0 in
-      let b = behind-owing here ws o in
-      let r = behind-ordered here ws o (s .ordered) in
-      let q = binds-few (word / 65536) in
-      let l = down-level here v count (binds (word / 65536)) (e ∙ ap (λ (x : ℕ). count * 65536 + x) (below-binds (here % 65536) word node-opened)) q p (s .ordered .3) in
-      onward (v ∷ behind here ws) m (rw (l .0) (omega arith)) (rw (l .0, l .1, l .2) (noted h)) (rw (l .0, l .1) looked)
-      (let n = l .0 in omega arith, let d = l .1 in let i = r .1 in let j = s .ordered .1 in omega arith, let d = l .1 in omega arith, let d = l .1 in let u = l .2 in let j = s .ordered .3 in omega arith, r .0)
+  standing-down : node < length places → (131072 ≤ word → word < 196608 → ⊥) → here % 65536 < 16384 → 0 < count
+      → Standing subject (set places node (here % 65536)) (node + 1) ((count * 65536 + below (here % 65536) word) ∷ behind here ws)
+  standing-down h m p z =
+      let o = s .ordered in
+      let r = down-ordered here ws o count word p z in
+      let l = down-level here _ count (binds (word / 65536)) (ap (λ (x : ℕ). count * 65536 + x) (below-binds (here % 65536) word node-opened)) (binds-few (word / 65536)) p (o .3) in
+      onward _ m (r .1) (rw (l .0, l .1, l .2) (noted h)) (rw (l .0, l .1) looked) (r .0)
 
   standing-deep : 16384 ≤ here % 65536 → 0 < count → leb (depth (front subject)) 64 ≡ false
   standing-deep p z =
@@ -317,8 +397,8 @@ surveyed-refused places r e = record { size = e; table = λ n f. never (cc) }
 pub surveyed-long : (subject places : List ℕ) → 8192 < length subject → Surveyed subject places (Refused refusal.TooManyWords)
 surveyed-long subject places h = surveyed-refused places _ (sym (subject-refused subject _ (sym (accept-long planLimit subject h))))
 
-pub surveyed-bad : (subject places : List ℕ) → length subject ≤ 8192 → isGood subject ≡ false → Surveyed subject places (Refused refusal.TableNotGood)
-surveyed-bad subject places h g = surveyed-refused places _ (sym (subject-refused subject _ (sym (accept-bad planLimit subject h g))))
+pub refused-bad : (subject : List ℕ) → length subject ≤ 8192 → isGood subject ≡ false → Refused refusal.TableNotGood ≡ sized (subjectIn subject)
+refused-bad subject h g = sym (subject-refused subject _ (sym (accept-bad planLimit subject h g)))
 
 module _ (subject : List ℕ) (g : isGood subject ≡ true) (l : length subject ≤ 8192) where
   pub refused-deep : leb (depth (front subject)) 64 ≡ false → Refused refusal.TooDeep ≡ sized (subjectIn subject)
@@ -327,8 +407,11 @@ module _ (subject : List ℕ) (g : isGood subject ≡ true) (l : length subject 
   accepted : leb (depth (front subject)) 64 ≡ true → Nodes (length subject / 2) ≡ sized (tableIn planLimit subject)
   accepted d = sym (accept-good planLimit subject l g d)
 
-  pub refused-metavariable : leb (depth (front subject)) 64 ≡ true → isEmpty (metas (front subject)) ≡ false → Refused refusal.MetavariableInSubject ≡ sized (subjectIn subject)
+  refused-metavariable : leb (depth (front subject)) 64 ≡ true → isEmpty (metas (front subject)) ≡ false → Refused refusal.MetavariableInSubject ≡ sized (subjectIn subject)
   refused-metavariable d m = sym (subject-metavariable (accepted-table planLimit subject _ (accepted d)) m)
+
+  pub refused-unfit : Unfit subject → leb (depth (front subject)) 64 ≡ true → Refused refusal.MetavariableInSubject ≡ sized (subjectIn subject)
+  refused-unfit u d = refused-metavariable d (rw d at (u g))
 
   surveyed-whole : (places : List ℕ) (n : ℕ) → n ≤ length places → Standing subject places n [] → Surveyed subject places (Nodes n)
   surveyed-whole places n h s =
@@ -347,13 +430,15 @@ module _ (subject : List ℕ) (g : isGood subject ≡ true) (l : length subject 
 
 -- ---- The levels in an array
 
+-- Whether the table is good is not known yet: it is if the words behind the node hold as many terms as are owed. If it is, the walk stands so.
 pub record Surveying (subject places waiting : List ℕ) (kept here node : ℕ) : Type 0 where
-  pub standing : Standing subject places node (here ∷ listed waiting kept)
-  pub good : isGood subject ≡ true
+  pub good : holds (owing (here ∷ listed waiting kept)) (termsIn (drop (2 * node) subject)) ≡ isGood subject
+  pub standing : isGood subject ≡ true → Standing subject places node (here ∷ listed waiting kept)
+  pub ordered : Ordered (here ∷ listed waiting kept)
   pub short : length subject ≤ 8192
   pub wide : 4096 ≤ length places
   pub room : length waiting ≡ 64
-  pub within : 2 * node + 2 ≤ length subject
+  pub within : 2 * node ≤ length subject
   pub owes : 65536 ≤ here
   pub few : kept < 64
 
@@ -361,75 +446,127 @@ length-listed : (l : List ℕ) (k : ℕ) → length (listed l k) ≡ k
 length-listed l zero = refl
 length-listed l (suc k) = ap suc (length-listed l k)
 
-surveying-at : {subject places waiting : List ℕ} {kept here node : ℕ} → Standing subject places node (here ∷ listed waiting kept) → isGood subject ≡ true → length subject ≤ 8192
-    → 4096 ≤ length places → length waiting ≡ 64 → Surveying subject places waiting kept here node
-surveying-at {waiting = waiting} {kept} {here} s g l p r = record {
-  standing = s;
-  good = g;
-  short = l;
-  wide = p;
-  room = r;
-  within = let w = s .walk .within in let o = s .ordered .0 in omega arith;
-  owes = s .ordered .0;
-  few = let n = length-listed waiting kept in let o = s .ordered .1 in let q = s .ordered .2 in omega arith;
-}
+surveying-at : {subject places waiting : List ℕ} {kept here node : ℕ} (ws : List ℕ) → here ∷ listed waiting kept ≡ ws → holds (owing ws) (termsIn (drop (2 * node) subject)) ≡ isGood subject
+    → (isGood subject ≡ true → Standing subject places node ws) → Ordered ws → length subject ≤ 8192 → 4096 ≤ length places → length waiting ≡ 64 → 2 * node ≤ length subject
+    → Surveying subject places waiting kept here node
+surveying-at {waiting = waiting} {kept} {here} ws e g s o l p r w =
+    let q = rw (← e) at o in
+    record {
+      good = rw (← e) at g;
+      standing = rw (← e) at s;
+      ordered = q;
+      short = l;
+      wide = p;
+      room = r;
+      within = w;
+      owes = q .0;
+      few = let n = length-listed waiting kept in let i = q .1 in let j = q .2 in omega arith;
+    }
 
-pub surveying-from : {subject : List ℕ} (places : List ℕ) → (isGood subject ≡ true) × (length subject ≤ 8192) × (4096 ≤ length places)
-    → Surveying subject places (replicate 64 0) 0 65792 0
-surveying-from {subject} places h = surveying-at (standing-from subject places (good-begins subject (h .0) .0)) (h .0) (h .1) (h .2) refl
+pub surveying-from : {subject : List ℕ} (places : List ℕ) → (length subject ≤ 8192) × (4096 ≤ length places) → Surveying subject places (replicate 64 0) 0 65792 0
+surveying-from {subject} places h =
+    surveying-at (65792 ∷ []) refl (sym (good-start subject)) (λ g. standing-from subject places (good-begins subject g .0)) (omega arith, omega arith, omega arith, omega arith, tt) (h .0) (h .1) refl
+    (omega arith)
 
 module _ {subject places waiting : List ℕ} {kept here node : ℕ} (s : Surveying subject places waiting kept here node) where
-  spot : node < length places
-  spot = let w = s .within in let l = s .short in let p = s .wide in omega arith
+  -- the words run out
+  pub surveying-short : length subject ≤ 2 * node + 1 → Refused refusal.TableNotGood ≡ sized (subjectIn subject)
+  surveying-short h = refused-bad subject (s .short) (sym (s .good) ∙ go (leb (length subject) (2 * node)) (leb-true (length subject) (2 * node)) (leb-false (length subject) (2 * node)))
+    where
+      n : ℕ
+      n = owing (here ∷ listed waiting kept)
+      go : (q : Bool) → (q ≡ true → length subject ≤ 2 * node) → (q ≡ false → 2 * node < length subject) → holds n (termsIn (drop (2 * node) subject)) ≡ false
+      go true f g = good-end subject (2 * node) n (f refl) ∙ ne-eqb n 0 (λ e. let o = s .owes in omega arith)
+      go false f g = good-odd subject (2 * node) n (let k = g refl in omega arith)
 
-  wide-on : (w : ℕ) → 4096 ≤ length (set places node w)
-  wide-on w = simp length-set (s .wide)
+  module _ (h : 2 * node + 1 < length subject) where
+    abbrev word′ : ℕ
+    word′ = getD subject (2 * node) 0
 
-  pub surveying-arguments : getD subject (2 * node + 1) 0 ≤ 8
-  surveying-arguments = few-arguments (s .standing)
+    abbrev count′ : ℕ
+    count′ = getD subject (2 * node + 1) 0
 
-  pub surveying-metavariable : 131072 ≤ getD subject (2 * node) 0 → getD subject (2 * node) 0 < 196608 → isEmpty (metas (front subject)) ≡ false
-  surveying-metavariable = standing-metavariable (s .standing)
+    pub surveying-outside : inLayout word′ count′ ≡ false → Refused refusal.TableNotGood ≡ sized (subjectIn subject)
+    surveying-outside e = refused-bad subject (s .short) (sym (s .good) ∙ good-outside subject (2 * node) _ (omega arith) e)
 
-  pub surveying-deep : (places′ : List ℕ) → 16384 ≤ here % 65536 → (getD subject (2 * node + 1) 0 ≡ 0 → ⊥) → Surveyed subject places′ (Refused refusal.TooDeep)
-  surveying-deep places′ p c = surveyed-refused places′ _ (refused-deep subject (s .good) (s .short) (standing-deep (s .standing) p (omega arith)))
+    pub surveying-beyond : beyond word′ count′ (here % 65536) ≡ true → Unfit subject
+    surveying-beyond e g =
+        beyond-cases word′ count′ (here % 65536) e
+        (λ lo hi. rw (standing-metavariable (s .standing g) lo hi) (and-false (leb (depth (front subject)) 64)))
+        (λ c p. rw (standing-deep (s .standing g) p (omega arith)) refl)
 
-  module _ (m : 131072 ≤ getD subject (2 * node) 0 → getD subject (2 * node) 0 < 196608 → ⊥) where
-    -- a node with arguments
-    pub surveying-down : here % 65536 < 16384 → (getD subject (2 * node + 1) 0 ≡ 0 → ⊥)
-        → Surveying subject (set places node (here % 65536)) (set waiting kept (here - 65536)) (levels kept here) (getD subject (2 * node + 1) 0 * 65536 + below (here % 65536) (getD subject (2 * node) 0)) (node + 1)
-    unfolding levels
-    surveying-down p c =
-        surveying-at (rw kept-behind (standing-down (s .standing) spot m p (omega arith) _ refl)) (s .good) (s .short) (wide-on _) (simp length-set (s .room))
-      where
-        kept-behind : listed (set waiting kept (here - 65536)) (levels kept here) ≡ behind here (listed waiting kept)
-        kept-behind = go (ltb here 131072)
+    spot : node < length places
+    spot = let l = s .short in let p = s .wide in omega arith
+
+    wide-on : (w : ℕ) → 4096 ≤ length (set places node w)
+    wide-on w = simp length-set (s .wide)
+
+    module _ (y : inLayout word′ count′ ≡ true) (b : beyond word′ count′ (here % 65536) ≡ false) where
+      good-on : (vs : List ℕ) → owing vs ≡ owing (here ∷ listed waiting kept) - 1 + count′ → holds (owing vs) (termsIn (drop (2 * (node + 1)) subject)) ≡ isGood subject
+      good-on vs e =
+          let o = s .owes in
+          let n : 2 * (node + 1) ≡ 2 * node + 2 = omega arith in
+          rw (e, n) (sym (good-node subject (2 * node) (owing (here ∷ listed waiting kept)) (omega arith) (omega arith) y) ∙ s .good)
+
+      -- a node with arguments
+      pub surveying-down : (count′ ≡ 0 → ⊥)
+          → Surveying subject (set places node (here % 65536)) (set waiting kept (here - 65536)) (levels kept here) (count′ * 65536 + below (here % 65536) word′) (node + 1)
+      unfolding levels
+      surveying-down c =
+          let p = within-deep word′ count′ (here % 65536) b c in
+          let r = down-ordered here (listed waiting kept) (s .ordered) count′ word′ p (omega arith) in
+          surveying-at _ (ap (λ (l : List ℕ). (count′ * 65536 + below (here % 65536) word′) ∷ l) kept-behind) (good-on ((count′ * 65536 + below (here % 65536) word′) ∷ behind here (listed waiting kept)) (r .1))
+          (λ g. standing-down (s .standing g) spot (within-plain word′ count′ (here % 65536) b) p (omega arith)) (r .0) (s .short) (wide-on _) (simp length-set (s .room)) (omega arith)
+        where
+          kept-behind : listed (set waiting kept (here - 65536)) (levels kept here) ≡ behind here (listed waiting kept)
+          kept-behind = go (ltb here 131072)
+            where
+              e : listed (set waiting kept (here - 65536)) kept ≡ listed waiting kept
+              e = listed-set waiting kept kept (here - 65536) (omega arith)
+              go : (q : Bool) → listed (set waiting kept (here - 65536)) (cond q kept (kept + 1)) ≡ cond q (listed waiting kept) ((here - 65536) ∷ listed waiting kept)
+              go true = e
+              go false = rw (add-one kept, getD-set-same waiting kept (here - 65536) 0 (let r = s .room in let f = s .few in omega arith), e) refl
+
+      module _ (z : count′ ≡ 0) where
+        leaf-good : holds (owing (behind here (listed waiting kept))) (termsIn (drop (2 * (node + 1)) subject)) ≡ isGood subject
+        leaf-good = good-on (behind here (listed waiting kept)) (leaf-owing here (listed waiting kept) (s .ordered) count′ z)
+
+        leaf-standing : isGood subject ≡ true → Standing subject (set places node (here % 65536)) (node + 1) (behind here (listed waiting kept))
+        leaf-standing g = standing-leaf (s .standing g) spot (within-plain word′ count′ (here % 65536) b) z
+
+        leaf-ordered : Ordered (behind here (listed waiting kept))
+        leaf-ordered = behind-ordered here (listed waiting kept) (s .owes) (s .ordered) .0
+
+        -- a node without arguments, of which more are owed at its level
+        pub surveying-more : 131072 ≤ here → Surveying subject (set places node (here % 65536)) waiting kept (here - 65536) (node + 1)
+        surveying-more k =
+            surveying-at (behind here (listed waiting kept)) (rw (le-ltb here 131072 k) refl) leaf-good leaf-standing leaf-ordered (s .short) (wide-on _) (s .room) (omega arith)
+
+        -- the last of its level: the next level that waits
+        pub surveying-up : here < 131072 → (kept ≡ 0 → ⊥) → Surveying subject (set places node (here % 65536)) waiting (kept - 1) (getD waiting (kept - 1) 0) (node + 1)
+        surveying-up k f =
+            surveying-at (behind here (listed waiting kept)) (rw (lt-ltb here 131072 k) (sym (go kept f))) leaf-good leaf-standing leaf-ordered (s .short) (wide-on _) (s .room) (omega arith)
           where
-            e : listed (set waiting kept (here - 65536)) kept ≡ listed waiting kept
-            e = listed-set waiting kept kept (here - 65536) (omega arith)
-            go : (q : Bool) → listed (set waiting kept (here - 65536)) (cond q kept (kept + 1)) ≡ cond q (listed waiting kept) ((here - 65536) ∷ listed waiting kept)
-            go true = e
-            go false = rw (add-one kept, getD-set-same waiting kept (here - 65536) 0 (let r = s .room in let f = s .few in omega arith), e) refl
+            go : (k : ℕ) → (k ≡ 0 → ⊥) → listed waiting k ≡ getD waiting (k - 1) 0 ∷ listed waiting (k - 1)
+            go zero f = absurd (f refl)
+            go (suc k) f = let q : suc k - 1 ≡ k = omega arith in rw q refl
 
-    -- a node without arguments, of which more are owed at its level
-    pub surveying-more : getD subject (2 * node + 1) 0 ≡ 0 → 131072 ≤ here → Surveying subject (set places node (here % 65536)) waiting kept (here - 65536) (node + 1)
-    surveying-more z h =
-        surveying-at (rw (le-ltb here 131072 h) at (standing-leaf (s .standing) spot m z)) (s .good) (s .short) (wide-on _) (s .room)
-
-    -- the last of its level: the next level that waits
-    pub surveying-up : getD subject (2 * node + 1) 0 ≡ 0 → here < 131072 → (kept ≡ 0 → ⊥)
-        → Surveying subject (set places node (here % 65536)) waiting (kept - 1) (getD waiting (kept - 1) 0) (node + 1)
-    surveying-up z h k =
-        surveying-at (rw e at (rw (lt-ltb here 131072 h) at (standing-leaf (s .standing) spot m z))) (s .good) (s .short) (wide-on _) (s .room)
-      where
-        go : (k : ℕ) → (k ≡ 0 → ⊥) → listed waiting k ≡ getD waiting (k - 1) 0 ∷ listed waiting (k - 1)
-        go zero f = absurd (f refl)
-        go (suc k) f = let q : suc k - 1 ≡ k = omega arith in rw q refl
-        e : listed waiting kept ≡ getD waiting (kept - 1) 0 ∷ listed waiting (kept - 1)
-        e = go kept k
-
-    -- the last of all
-    pub surveying-end : getD subject (2 * node + 1) 0 ≡ 0 → here < 131072 → kept ≡ 0 → Surveyed subject (set places node (here % 65536)) (Nodes (node + 1))
-    surveying-end z h k =
-        surveyed-whole subject (s .good) (s .short) _ (node + 1) (simp length-set (let p = spot in omega arith))
-        (rw (lt-ltb here 131072 h, k) at (standing-leaf (s .standing) spot m z))
+        -- the last of all
+        pub surveying-end : here < 131072 → kept ≡ 0 → Surveyed subject (set places node (here % 65536)) (wholeOf (length subject) (node + 1))
+        surveying-end k f = go (eqb (length subject) (2 * (node + 1))) (eqb-true (length subject) (2 * (node + 1))) (eqb-false (length subject) (2 * (node + 1)))
+          where
+            e : behind here (listed waiting kept) ≡ []
+            e = rw (lt-ltb here 131072 k, f) refl
+            left : holds 0 (termsIn (drop (2 * (node + 1)) subject)) ≡ isGood subject
+            left = rw e at leaf-good
+            no-good : (q : Bool) → (q ≡ true → length subject ≡ 2 * (node + 1) + 1) → (q ≡ false → length subject ≡ 2 * (node + 1) + 1 → ⊥) → (length subject ≡ 2 * (node + 1) → ⊥) → isGood subject ≡ false
+            no-good true a c n = sym left ∙ good-odd subject (2 * (node + 1)) 0 (sym (a refl))
+            no-good false a c n = sym left ∙ good-more subject (2 * (node + 1)) 0 (let i = c refl in omega arith) refl
+            go : (q : Bool) → (q ≡ true → length subject ≡ 2 * (node + 1)) → (q ≡ false → length subject ≡ 2 * (node + 1) → ⊥)
+                → Surveyed subject (set places node (here % 65536)) (wholeOf (length subject) (node + 1))
+            go true a c =
+                let g : isGood subject ≡ true = sym left ∙ good-end subject (2 * (node + 1)) 0 (let i = a refl in omega arith) in
+                rw (whole-all (length subject) (node + 1) (a refl)) (surveyed-whole subject g (s .short) _ (node + 1) (simp length-set (let p = spot in omega arith)) (rw e at (leaf-standing g)))
+            go false a c =
+                rw (whole-more (length subject) (node + 1) (c refl))
+                (surveyed-refused _ _ (refused-bad subject (s .short) (no-good (eqb (length subject) (2 * (node + 1) + 1)) (eqb-true (length subject) (2 * (node + 1) + 1)) (eqb-false (length subject) (2 * (node + 1) + 1)) (c refl))))
