@@ -5,7 +5,7 @@ use Prim.Native.Nat.{ℕ, zero, suc, _+_, _-_, _*_, _/_, _%_, _≤_, _<_, max}
 use native.Mathlib.Nat.{add-zero}
 use native.Mathlib.Numerals.{add-one}
 use native.Mathlib.Omega.{arith}
-use mathlib.Core.Bool.{Bool, true, false, not, _&&_, _||_, cond, and-false}
+use mathlib.Core.Bool.{Bool, true, false, _&&_, cond, and-false}
 use mathlib.Core.List.{List, [], _∷_, _++_, append-assoc, append-nil}
 use lib.Dec.{eqb, leb, ltb, leb·suc-suc}
 use lib.ListN.{length, take, drop, getD, set, replicate, length-set}
@@ -17,17 +17,17 @@ use Rattle.documents.specs.Terms.{many, Var, Sym, Meta, Abst, Nil, Cons, Term, 
 use Rattle.documents.specs.Tables.{termsIn, nodes, depth}
 use Rattle.documents.specs.Rules.{metas}
 use Rattle.documents.specs.Numbers.{tableIn, subjectIn}
-use Rattle.documents.proofs.Lists.{never, and-assoc, and-true}
+use Rattle.documents.proofs.Lists.{never, on, T-of, of-and, and-assoc, and-true}
 use Rattle.tables.specs.declared.accept.Sized.the-variants.{Nodes, Refused}
 use Rattle.tables.specs.Answers.{sized, isGood, inLayout}
 use Rattle.tables.specs.Parts.{held, firstTerms, terms, front, Begins}
 use Rattle.tables.proofs.Parts.{only, headed, Shape, Opened, opened, front-term, begins-less, no-terms}
 use Rattle.tables.proofs.Walks.{Walk, walk-from, walk-on, ended}
 use Rattle.tables.proofs.Sides.{metas-front, metas-here, metas-behind}
-use Rattle.tables.proofs.Accepted.{layout-narrow, holds, good-start, good-node, good-outside, good-more, good-odd, good-end, listed, listed-set, depth-headed, leb-max, first-arguments, drop-arguments, depth-positive, good-begins, accept-long, accept-bad, accept-deep, accept-good, accepted-table, subject-refused, subject-metavariable, subject-plain}
+use Rattle.tables.proofs.Accepted.{layout-variable, layout-applied, layout-abstraction, layout-other, holds, good-start, good-node, good-outside, good-more, good-odd, good-end, listed, listed-set, depth-headed, leb-max, first-arguments, drop-arguments, depth-positive, good-begins, accept-long, accept-bad, accept-deep, accept-good, accepted-table, subject-refused, subject-metavariable, subject-plain}
 use Rattle.documents.specs.declared.Refusal.{Refusal}
 use Rattle.survey.proofs.Places.{length-places}
-use Rattle.survey.specs.Places.{place, placesOf, Surveyed, Unfit, beyond, wholeOf, below, levels}
+use Rattle.survey.specs.Places.{place, placesOf, Surveyed, Unfit, goesIn, wholeOf, below, levels}
 use Rattle.documents.specs.declared.Refusal.the-variants as refusal
 
 -- ---- Levels
@@ -154,47 +154,89 @@ module _ {kind s c : ℕ} {us vs : List Term} (o : Opened kind s c us vs) (n d :
 
 -- ---- The tests of the code
 
-no-metavariable : (word : ℕ) → (131072 ≤ word → word < 196608 → ⊥) → leb 131072 word && ltb word 196608 ≡ false
-no-metavariable word m = go (leb 131072 word) (ltb word 196608) (leb-true 131072 word) (ltb-true word 196608)
-  where
-    go : (x y : Bool) → (x ≡ true → 131072 ≤ word) → (y ≡ true → word < 196608) → x && y ≡ false
-    go true true f g = absurd (m (f refl) (g refl))
-    go true false f g = refl
-    go false y f g = refl
-
 module _ (word count here : ℕ) where
-  pub beyond-metavariable : 131072 ≤ word → word < 196608 → beyond word count here ≡ true
-  unfolding beyond
-  beyond-metavariable lo hi = rw (le-leb 131072 word lo, lt-ltb word 196608 hi) refl
-
-  pub beyond-leaf : (131072 ≤ word → word < 196608 → ⊥) → count ≡ 0 → beyond word count here ≡ false
-  unfolding beyond
-  beyond-leaf m z = rw (no-metavariable word m, eq-eqb count 0 z) refl
-
-  pub beyond-inner : (131072 ≤ word → word < 196608 → ⊥) → (count ≡ 0 → ⊥) → beyond word count here ≡ leb 16384 here
-  unfolding beyond
-  beyond-inner m c = rw (no-metavariable word m, ne-eqb count 0 c) refl
-
-  -- what a node that is not beyond is
-  pub within-plain : beyond word count here ≡ false → 131072 ≤ word → word < 196608 → ⊥
-  within-plain e lo hi = let q : true ≡ false = sym (beyond-metavariable lo hi) ∙ e in never (cc)
-
-  pub within-deep : beyond word count here ≡ false → (count ≡ 0 → ⊥) → here < 16384
-  within-deep e c = leb-false 16384 here (sym (beyond-inner (within-plain e) c) ∙ e)
-
-  beyond-cases : {P : Type 0} → beyond word count here ≡ true → (131072 ≤ word → word < 196608 → P) → ((count ≡ 0 → ⊥) → 16384 ≤ here → P) → P
-  unfolding beyond
-  beyond-cases {P} e f g = go (leb 131072 word) (ltb word 196608) (eqb count 0) (leb 16384 here) (leb-true 131072 word) (ltb-true word 196608) (eqb-false count 0) (leb-true 16384 here) e
+  -- a leaf
+  layout-leaf : word < 131072 → count ≡ 0 → inLayout word count ≡ true
+  layout-leaf h z = go (ltb word 65536) (ltb-true word 65536) (ltb-false word 65536)
     where
-      go : (x y z u : Bool) → (x ≡ true → 131072 ≤ word) → (y ≡ true → word < 196608) → (z ≡ false → count ≡ 0 → ⊥) → (u ≡ true → 16384 ≤ here)
-          → (x && y) || (not z && u) ≡ true → P
-      go true true z u a b k d e = f (a refl) (b refl)
-      go true false false true a b k d e = g (k refl) (d refl)
-      go true false false false a b k d e = never (cc)
-      go true false true u a b k d e = never (cc)
-      go false y false true a b k d e = g (k refl) (d refl)
-      go false y false false a b k d e = never (cc)
-      go false y true u a b k d e = never (cc)
+      go : (q : Bool) → (q ≡ true → word < 65536) → (q ≡ false → 65536 ≤ word) → inLayout word count ≡ true
+      go true f g = layout-variable word count (f refl) ∙ eq-eqb count 0 z
+      go false f g = layout-applied word count (g refl) (omega arith) ∙ le-leb count 8 (omega arith)
+
+  -- an abstraction or a symbol, with arguments
+  pub record GoesIn : Type 0 where
+    pub above : here < 16384
+    pub layout : inLayout word count ≡ true
+    pub narrow : count ≤ 8
+    pub plain : 131072 ≤ word → word < 196608 → ⊥
+
+  pub goes-in : goesIn word count here ≡ true → GoesIn
+  unfolding goesIn
+  goes-in e =
+      let a = of-and (ltb here 16384) _ (T-of _ e) in
+      go (eqb word 196608) (eqb-true word 196608) (ltb-true here 16384 (on _ (a .0))) (on _ (a .1))
+    where
+      go : (q : Bool) → (q ≡ true → word ≡ 196608) → here < 16384 → cond q (eqb count 1) (leb 65536 word && (ltb word 131072 && leb count 8)) ≡ true → GoesIn
+      go true f h e =
+          let w = f refl in
+          let c = eqb-true count 1 e in
+          record { above = h; layout = layout-abstraction word count w ∙ e; narrow = omega arith; plain = λ lo hi. omega arith }
+      go false f h e =
+          let a = of-and (leb 65536 word) _ (T-of _ e) in
+          let b = of-and (ltb word 131072) (leb count 8) (a .1) in
+          let lo = leb-true 65536 word (on _ (a .0)) in
+          let hi = ltb-true word 131072 (on _ (b .0)) in
+          record { above = h; layout = layout-applied word count lo (omega arith) ∙ on _ (b .1); narrow = leb-true count 8 (on _ (b .1)); plain = λ p q. omega arith }
+
+  goes-deep : 16384 ≤ here → goesIn word count here ≡ false
+  unfolding goesIn
+  goes-deep h = rw (le-ltb here 16384 h) refl
+
+  pub stays-deep : 16384 ≤ here → false ≡ goesIn word count here
+  stays-deep h = sym (goes-deep h)
+
+  pub goes-abstraction : here < 16384 → word ≡ 196608 → goesIn word count here ≡ eqb count 1
+  unfolding goesIn
+  goes-abstraction h e = rw (lt-ltb here 16384 h, eq-eqb word 196608 e) refl
+
+  goes-other : here < 16384 → (word ≡ 196608 → ⊥) → goesIn word count here ≡ leb 65536 word && (ltb word 131072 && leb count 8)
+  unfolding goesIn
+  goes-other h e = rw (lt-ltb here 16384 h, ne-eqb word 196608 e) refl
+
+  pub goes-variable : here < 16384 → (word ≡ 196608 → ⊥) → word < 65536 → goesIn word count here ≡ false
+  goes-variable h e v = goes-other h e ∙ rw (lt-leb 65536 word v) refl
+
+  pub goes-past : here < 16384 → (word ≡ 196608 → ⊥) → 65536 ≤ word → 131072 ≤ word → goesIn word count here ≡ false
+  goes-past h e v m = goes-other h e ∙ rw (le-leb 65536 word v, le-ltb word 131072 m) refl
+
+  pub goes-symbol : here < 16384 → (word ≡ 196608 → ⊥) → 65536 ≤ word → word < 131072 → goesIn word count here ≡ leb count 8
+  goes-symbol h e v m = goes-other h e ∙ rw (le-leb 65536 word v, lt-ltb word 131072 m) refl
+
+  -- a node in the layout that is no abstraction, no variable and no symbol is a metavariable
+  is-metavariable : inLayout word count ≡ true → (word ≡ 196608 → ⊥) → word < 196608
+  is-metavariable y e = go (ltb word 196608) (ltb-true word 196608) (ltb-false word 196608)
+    where
+      go : (q : Bool) → (q ≡ true → word < 196608) → (q ≡ false → 196608 ≤ word) → word < 196608
+      go true f g = f refl
+      go false f g = let q : true ≡ false = sym y ∙ layout-other word count (g refl) e in never (cc)
+
+  leaf-metavariable : inLayout word count ≡ true → count ≡ 0 → word < 196608
+  leaf-metavariable y z = is-metavariable y (λ e. let o = eqb-true count 1 (sym (layout-abstraction word count e) ∙ y) in omega arith)
+
+  -- a node with arguments that is not gone into
+  stays : {P : Type 0} → inLayout word count ≡ true → (count ≡ 0 → ⊥) → goesIn word count here ≡ false → (131072 ≤ word → word < 196608 → P) → (16384 ≤ here → P) → P
+  stays {P} y c e f g = go (ltb here 16384) (eqb word 196608) (ltb-true here 16384) (ltb-false here 16384) (eqb-true word 196608) (eqb-false word 196608)
+    where
+      no : goesIn word count here ≡ true → P
+      no t = let q : true ≡ false = sym t ∙ e in never (cc)
+      more : here < 16384 → (word ≡ 196608 → ⊥) → (a b : Bool) → (a ≡ true → word < 65536) → (a ≡ false → 65536 ≤ word) → (b ≡ true → 131072 ≤ word) → (b ≡ false → word < 131072) → P
+      more h n true b k l m i = let z = eqb-true count 0 (sym (layout-variable word count (k refl)) ∙ y) in absurd (c z)
+      more h n false true k l m i = f (m refl) (is-metavariable y n)
+      more h n false false k l m i = no (goes-symbol h n (l refl) (i refl) ∙ sym (layout-applied word count (l refl) (let j = i refl in omega arith)) ∙ y)
+      go : (a b : Bool) → (a ≡ true → here < 16384) → (a ≡ false → 16384 ≤ here) → (b ≡ true → word ≡ 196608) → (b ≡ false → word ≡ 196608 → ⊥) → P
+      go false b k l m i = g (l refl)
+      go true true k l m i = no (goes-abstraction (k refl) (m refl) ∙ sym (layout-abstraction word count (m refl)) ∙ y)
+      go true false k l m i = more (k refl) (i refl) (ltb word 65536) (leb 131072 word) (ltb-true word 65536) (ltb-false word 65536) (leb-true 131072 word) (leb-false 131072 word)
 
 module _ (words n : ℕ) where
   pub whole-all : words ≡ 2 * n → wholeOf words n ≡ Nodes n
@@ -486,14 +528,29 @@ module _ {subject places waiting : List ℕ} {kept here node : ℕ} (s : Surveyi
     abbrev count′ : ℕ
     count′ = getD subject (2 * node + 1) 0
 
-    pub surveying-outside : inLayout word′ count′ ≡ false → Refused refusal.TableNotGood ≡ sized (subjectIn subject)
-    surveying-outside e = refused-bad subject (s .short) (sym (s .good) ∙ good-outside subject (2 * node) _ (omega arith) e)
+    outside : inLayout word′ count′ ≡ false → isGood subject ≡ false
+    outside e = sym (s .good) ∙ good-outside subject (2 * node) _ (omega arith) e
 
-    pub surveying-beyond : beyond word′ count′ (here % 65536) ≡ true → Unfit subject
-    surveying-beyond e g =
-        beyond-cases word′ count′ (here % 65536) e
-        (λ lo hi. rw (standing-metavariable (s .standing g) lo hi) (and-false (leb (depth (front subject)) 64)))
-        (λ c p. rw (standing-deep (s .standing g) p (omega arith)) refl)
+    -- a node of a good table is in the layout
+    in-good : isGood subject ≡ true → inLayout word′ count′ ≡ true
+    in-good g = go (inLayout word′ count′) refl
+      where
+        go : (q : Bool) → inLayout word′ count′ ≡ q → q ≡ true
+        go true e = refl
+        go false e = let q : true ≡ false = sym g ∙ outside e in never (cc)
+
+    abbrev Refusable : Type 0
+    Refusable = (length subject ≤ 8192) × Unfit subject × (inLayout word′ count′ ≡ false → isGood subject ≡ false)
+
+    with-metavariable : isGood subject ≡ true → 131072 ≤ word′ → word′ < 196608 → leb (depth (front subject)) 64 && isEmpty (metas (front subject)) ≡ false
+    with-metavariable g lo hi = rw (standing-metavariable (s .standing g) lo hi) (and-false (leb (depth (front subject)) 64))
+
+    pub refused-leaf : count′ ≡ 0 → 131072 ≤ word′ → Refusable
+    refused-leaf z lo = (s .short, λ g. with-metavariable g lo (leaf-metavariable word′ count′ 0 (in-good g) z), outside)
+
+    pub refused-stays : (count′ ≡ 0 → ⊥) → goesIn word′ count′ (here % 65536) ≡ false → Refusable
+    refused-stays c e =
+        (s .short, λ g. stays word′ count′ (here % 65536) (in-good g) c e (with-metavariable g) (λ p. rw (standing-deep (s .standing g) p (omega arith)) refl), outside)
 
     spot : node < length places
     spot = let l = s .short in let p = s .wide in omega arith
@@ -501,7 +558,7 @@ module _ {subject places waiting : List ℕ} {kept here node : ℕ} (s : Surveyi
     wide-on : (w : ℕ) → 4096 ≤ length (set places node w)
     wide-on w = simp length-set (s .wide)
 
-    module _ (y : inLayout word′ count′ ≡ true) (b : beyond word′ count′ (here % 65536) ≡ false) where
+    module _ (y : inLayout word′ count′ ≡ true) where
       good-on : (vs : List ℕ) → owing vs ≡ owing (here ∷ listed waiting kept) - 1 + count′ → holds (owing vs) (termsIn (drop (2 * (node + 1)) subject)) ≡ isGood subject
       good-on vs e =
           let o = s .owes in
@@ -509,14 +566,14 @@ module _ {subject places waiting : List ℕ} {kept here node : ℕ} (s : Surveyi
           rw (e, n) (sym (good-node subject (2 * node) (owing (here ∷ listed waiting kept)) (omega arith) (omega arith) y) ∙ s .good)
 
       -- a node with arguments
-      pub surveying-down : (count′ ≡ 0 → ⊥)
+      surveying-in : GoesIn word′ count′ (here % 65536) → (count′ ≡ 0 → ⊥)
           → Surveying subject (set places node (here % 65536)) (set waiting kept (here - 65536)) (levels kept here) (count′ * 65536 + below (here % 65536) word′) (node + 1)
       unfolding levels
-      surveying-down c =
-          let p = within-deep word′ count′ (here % 65536) b c in
+      surveying-in i c =
+          let p = i .above in
           let r = down-ordered here (listed waiting kept) (s .ordered) count′ word′ p (omega arith) in
           surveying-at _ (ap (λ (l : List ℕ). (count′ * 65536 + below (here % 65536) word′) ∷ l) kept-behind) (good-on ((count′ * 65536 + below (here % 65536) word′) ∷ behind here (listed waiting kept)) (r .1))
-          (λ g. standing-down (s .standing g) spot (within-plain word′ count′ (here % 65536) b) p (omega arith)) (r .0) (s .short) (wide-on _) (simp length-set (s .room)) (omega arith)
+          (λ g. standing-down (s .standing g) spot (i .plain) p (omega arith)) (r .0) (s .short) (wide-on _) (simp length-set (s .room)) (omega arith)
         where
           kept-behind : listed (set waiting kept (here - 65536)) (levels kept here) ≡ behind here (listed waiting kept)
           kept-behind = go (ltb here 131072)
@@ -527,46 +584,50 @@ module _ {subject places waiting : List ℕ} {kept here node : ℕ} (s : Surveyi
               go true = e
               go false = rw (add-one kept, getD-set-same waiting kept (here - 65536) 0 (let r = s .room in let f = s .few in omega arith), e) refl
 
-      module _ (z : count′ ≡ 0) where
-        leaf-good : holds (owing (behind here (listed waiting kept))) (termsIn (drop (2 * (node + 1)) subject)) ≡ isGood subject
-        leaf-good = good-on (behind here (listed waiting kept)) (leaf-owing here (listed waiting kept) (s .ordered) count′ z)
+    pub surveying-down : goesIn word′ count′ (here % 65536) ≡ true → (count′ ≡ 0 → ⊥)
+        → Surveying subject (set places node (here % 65536)) (set waiting kept (here - 65536)) (levels kept here) (count′ * 65536 + below (here % 65536) word′) (node + 1)
+    surveying-down e c = let i = goes-in word′ count′ (here % 65536) e in surveying-in (i .layout) i c
 
-        leaf-standing : isGood subject ≡ true → Standing subject (set places node (here % 65536)) (node + 1) (behind here (listed waiting kept))
-        leaf-standing g = standing-leaf (s .standing g) spot (within-plain word′ count′ (here % 65536) b) z
+    module _ (z : count′ ≡ 0) (v : word′ < 131072) where
+      leaf-good : holds (owing (behind here (listed waiting kept))) (termsIn (drop (2 * (node + 1)) subject)) ≡ isGood subject
+      leaf-good = good-on (layout-leaf word′ count′ 0 v z) (behind here (listed waiting kept)) (leaf-owing here (listed waiting kept) (s .ordered) count′ z)
 
-        leaf-ordered : Ordered (behind here (listed waiting kept))
-        leaf-ordered = behind-ordered here (listed waiting kept) (s .owes) (s .ordered) .0
+      leaf-standing : isGood subject ≡ true → Standing subject (set places node (here % 65536)) (node + 1) (behind here (listed waiting kept))
+      leaf-standing g = standing-leaf (s .standing g) spot (λ lo hi. omega arith) z
 
-        -- a node without arguments, of which more are owed at its level
-        pub surveying-more : 131072 ≤ here → Surveying subject (set places node (here % 65536)) waiting kept (here - 65536) (node + 1)
-        surveying-more k =
-            surveying-at (behind here (listed waiting kept)) (rw (le-ltb here 131072 k) refl) leaf-good leaf-standing leaf-ordered (s .short) (wide-on _) (s .room) (omega arith)
+      leaf-ordered : Ordered (behind here (listed waiting kept))
+      leaf-ordered = behind-ordered here (listed waiting kept) (s .owes) (s .ordered) .0
 
-        -- the last of its level: the next level that waits
-        pub surveying-up : here < 131072 → (kept ≡ 0 → ⊥) → Surveying subject (set places node (here % 65536)) waiting (kept - 1) (getD waiting (kept - 1) 0) (node + 1)
-        surveying-up k f =
-            surveying-at (behind here (listed waiting kept)) (rw (lt-ltb here 131072 k) (sym (go kept f))) leaf-good leaf-standing leaf-ordered (s .short) (wide-on _) (s .room) (omega arith)
-          where
-            go : (k : ℕ) → (k ≡ 0 → ⊥) → listed waiting k ≡ getD waiting (k - 1) 0 ∷ listed waiting (k - 1)
-            go zero f = absurd (f refl)
-            go (suc k) f = let q : suc k - 1 ≡ k = omega arith in rw q refl
+      -- a node without arguments, of which more are owed at its level
+      pub surveying-more : 131072 ≤ here → Surveying subject (set places node (here % 65536)) waiting kept (here - 65536) (node + 1)
+      surveying-more k =
+          surveying-at (behind here (listed waiting kept)) (rw (le-ltb here 131072 k) refl) leaf-good leaf-standing leaf-ordered (s .short) (wide-on _) (s .room) (omega arith)
 
-        -- the last of all
-        pub surveying-end : here < 131072 → kept ≡ 0 → Surveyed subject (set places node (here % 65536)) (wholeOf (length subject) (node + 1))
-        surveying-end k f = go (eqb (length subject) (2 * (node + 1))) (eqb-true (length subject) (2 * (node + 1))) (eqb-false (length subject) (2 * (node + 1)))
-          where
-            e : behind here (listed waiting kept) ≡ []
-            e = rw (lt-ltb here 131072 k, f) refl
-            left : holds 0 (termsIn (drop (2 * (node + 1)) subject)) ≡ isGood subject
-            left = rw e at leaf-good
-            no-good : (q : Bool) → (q ≡ true → length subject ≡ 2 * (node + 1) + 1) → (q ≡ false → length subject ≡ 2 * (node + 1) + 1 → ⊥) → (length subject ≡ 2 * (node + 1) → ⊥) → isGood subject ≡ false
-            no-good true a c n = sym left ∙ good-odd subject (2 * (node + 1)) 0 (sym (a refl))
-            no-good false a c n = sym left ∙ good-more subject (2 * (node + 1)) 0 (let i = c refl in omega arith) refl
-            go : (q : Bool) → (q ≡ true → length subject ≡ 2 * (node + 1)) → (q ≡ false → length subject ≡ 2 * (node + 1) → ⊥)
-                → Surveyed subject (set places node (here % 65536)) (wholeOf (length subject) (node + 1))
-            go true a c =
-                let g : isGood subject ≡ true = sym left ∙ good-end subject (2 * (node + 1)) 0 (let i = a refl in omega arith) in
-                rw (whole-all (length subject) (node + 1) (a refl)) (surveyed-whole subject g (s .short) _ (node + 1) (simp length-set (let p = spot in omega arith)) (rw e at (leaf-standing g)))
-            go false a c =
-                rw (whole-more (length subject) (node + 1) (c refl))
-                (surveyed-refused _ _ (refused-bad subject (s .short) (no-good (eqb (length subject) (2 * (node + 1) + 1)) (eqb-true (length subject) (2 * (node + 1) + 1)) (eqb-false (length subject) (2 * (node + 1) + 1)) (c refl))))
+      -- the last of its level: the next level that waits
+      pub surveying-up : here < 131072 → (kept ≡ 0 → ⊥) → Surveying subject (set places node (here % 65536)) waiting (kept - 1) (getD waiting (kept - 1) 0) (node + 1)
+      surveying-up k f =
+          surveying-at (behind here (listed waiting kept)) (rw (lt-ltb here 131072 k) (sym (go kept f))) leaf-good leaf-standing leaf-ordered (s .short) (wide-on _) (s .room) (omega arith)
+        where
+          go : (k : ℕ) → (k ≡ 0 → ⊥) → listed waiting k ≡ getD waiting (k - 1) 0 ∷ listed waiting (k - 1)
+          go zero f = absurd (f refl)
+          go (suc k) f = let q : suc k - 1 ≡ k = omega arith in rw q refl
+
+      -- the last of all
+      pub surveying-end : here < 131072 → kept ≡ 0 → Surveyed subject (set places node (here % 65536)) (wholeOf (length subject) (node + 1))
+      surveying-end k f = go (eqb (length subject) (2 * (node + 1))) (eqb-true (length subject) (2 * (node + 1))) (eqb-false (length subject) (2 * (node + 1)))
+        where
+          e : behind here (listed waiting kept) ≡ []
+          e = rw (lt-ltb here 131072 k, f) refl
+          left : holds 0 (termsIn (drop (2 * (node + 1)) subject)) ≡ isGood subject
+          left = rw e at leaf-good
+          no-good : (q : Bool) → (q ≡ true → length subject ≡ 2 * (node + 1) + 1) → (q ≡ false → length subject ≡ 2 * (node + 1) + 1 → ⊥) → (length subject ≡ 2 * (node + 1) → ⊥) → isGood subject ≡ false
+          no-good true a c n = sym left ∙ good-odd subject (2 * (node + 1)) 0 (sym (a refl))
+          no-good false a c n = sym left ∙ good-more subject (2 * (node + 1)) 0 (let i = c refl in omega arith) refl
+          go : (q : Bool) → (q ≡ true → length subject ≡ 2 * (node + 1)) → (q ≡ false → length subject ≡ 2 * (node + 1) → ⊥)
+              → Surveyed subject (set places node (here % 65536)) (wholeOf (length subject) (node + 1))
+          go true a c =
+              let g : isGood subject ≡ true = sym left ∙ good-end subject (2 * (node + 1)) 0 (let i = a refl in omega arith) in
+              rw (whole-all (length subject) (node + 1) (a refl)) (surveyed-whole subject g (s .short) _ (node + 1) (simp length-set (let p = spot in omega arith)) (rw e at (leaf-standing g)))
+          go false a c =
+              rw (whole-more (length subject) (node + 1) (c refl))
+              (surveyed-refused _ _ (refused-bad subject (s .short) (no-good (eqb (length subject) (2 * (node + 1) + 1)) (eqb-true (length subject) (2 * (node + 1) + 1)) (eqb-false (length subject) (2 * (node + 1) + 1)) (c refl))))

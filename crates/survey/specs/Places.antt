@@ -1,7 +1,7 @@
 -- Where each node of a subject stands: its depth, and the number of abstractions above it.
 use mathlib.Core.Path.{_≡_}
 use Prim.Native.Nat.{ℕ, suc, _+_, _*_}
-use mathlib.Core.Bool.{Bool, true, false, not, _&&_, _||_, cond}
+use mathlib.Core.Bool.{Bool, true, false, _&&_, cond}
 use mathlib.Core.List.{List, [], _∷_, _++_}
 use lib.Dec.{eqb, leb, ltb}
 use lib.ListN.{take}
@@ -39,9 +39,9 @@ pub record Surveyed (subject places : List ℕ) (r : Sized) : Type 0 where
 abbrev pub Unfit : List ℕ → Type 0
 Unfit subject = isGood subject ≡ true → leb (depth (front subject)) depthLimit && isEmpty (metas (front subject)) ≡ false
 
--- a metavariable, or a node at depth 64 with arguments
-unfoldable pub beyond : ℕ → ℕ → ℕ → Bool
-beyond word count here = (leb 131072 word && ltb word 196608) || (not (eqb count 0) && leb 16384 here)
+-- an abstraction or a symbol with so many arguments, at a place that is not of depth 64
+unfoldable pub goesIn : ℕ → ℕ → ℕ → Bool
+goesIn word count here = ltb here 16384 && cond (eqb word 196608) (eqb count 1) (leb 65536 word && (ltb word 131072 && leb count 8))
 
 -- the place of a node's arguments: only an abstraction, which has one first word, is above them besides
 unfoldable pub below : ℕ → ℕ → ℕ

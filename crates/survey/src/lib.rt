@@ -6,15 +6,18 @@ use tables::accept::in_layout;
 use tables::accept::is_shallow;
 use tables::node::ABSTRACTION;
 use tables::node::FIRST_METAVARIABLE;
+use tables::node::FIRST_SYMBOL;
+use tables::node::MOST_ARGUMENTS;
 use tables::node::MOST_DEPTH;
 use tables::node::PLAN_NODES;
 ghost use mathlib.Core.Path.{_≡_};
+ghost use mathlib.Core.Bool.{false};
 ghost use Prim.Native.Nat.{_<_, _≤_};
 ghost use lib.ListN.{length};
 ghost use Rattle.documents.specs.Numbers.{subjectIn};
 ghost use Rattle.tables.specs.declared.accept.Sized.the-variants.{Refused};
-ghost use Rattle.tables.specs.Answers.{sized};
-ghost use Rattle.survey.specs.Places.{Surveyed, Unfit, beyond, wholeOf, below, levels};
+ghost use Rattle.tables.specs.Answers.{sized, isGood, inLayout};
+ghost use Rattle.survey.specs.Places.{Surveyed, Unfit, goesIn, wholeOf, below, levels};
 
 // A level of the walk is one word: how many terms are owed there, times this, and the place of their roots.
 pub const TERM: u32 = 65536;
@@ -46,54 +49,59 @@ fn lay(subject: &[u32], places: &mut [u32]) -> Sized
     requires { ⌜ (length (now subject) ≤ 8192) × (4096 ≤ length (now places)) ⌝ }
     ensures { λ r. ⌜ Surveyed (now (subject .entry)) (now (places .exit)) r ⌝ }
 {
+    let nodes = subject.len() / 2;
     let mut waiting = [0u32; MOST_DEPTH];
     let mut kept: usize = 0;
     let mut here = ROOT;
     let mut node: usize = 0;
-    while 2 * node + 1 < subject.len() {
+    while node < nodes {
         let word = subject[2 * node];
         let count = subject[2 * node + 1];
-        if !in_layout(word, count) {
-            return Sized::Refused(Refusal::TableNotGood);
-        }
         let place = here % TERM;
-        if is_beyond(word, count, place) {
-            return Sized::Refused(refusal_of(subject));
-        }
         places[node] = place;
         node += 1;
-        if count != 0 {
-            waiting[kept] = here - TERM;
-            kept = keep(kept, here);
-            here = count * TERM + inside(place, word);
+        if count == 0 {
+            if FIRST_METAVARIABLE <= word {
+                return Sized::Refused(refusal_at(subject, word, count));
+            }
+            if 2 * TERM <= here {
+                here -= TERM;
+                continue;
+            }
+            if kept == 0 {
+                return whole(subject.len(), node);
+            }
+            kept -= 1;
+            here = waiting[kept];
             continue;
         }
-        if 2 * TERM <= here {
-            here -= TERM;
-            continue;
+        if !goes_in(word, count, place) {
+            return Sized::Refused(refusal_at(subject, word, count));
         }
-        if kept == 0 {
-            return whole(subject.len(), node);
-        }
-        kept -= 1;
-        here = waiting[kept];
+        waiting[kept] = here - TERM;
+        kept = keep(kept, here);
+        here = count * TERM + inside(place, word);
     }
     Sized::Refused(Refusal::TableNotGood)
 }
 
-// Whether a node is a metavariable, or has arguments deeper than 64.
-fn is_beyond(word: u32, count: u32, place: u32) -> bool
-    ensures { λ r. ⌜ r ≡ beyond word count place ⌝ }
+// Whether a node with arguments is an abstraction or a symbol as 01's table of kinds has them, and not at depth 64.
+fn goes_in(word: u32, count: u32, place: u32) -> bool
+    ensures { λ r. ⌜ r ≡ goesIn word count place ⌝ }
 {
-    if FIRST_METAVARIABLE <= word {
-        if word < ABSTRACTION {
-            return true;
-        }
-    }
-    if count == 0 {
+    if DEEPEST <= place {
         return false;
     }
-    DEEPEST <= place
+    if word == ABSTRACTION {
+        return count == 1;
+    }
+    if word < FIRST_SYMBOL {
+        return false;
+    }
+    if FIRST_METAVARIABLE <= word {
+        return false;
+    }
+    count <= MOST_ARGUMENTS
 }
 
 // The answer when no term is owed any more: no word may be left.
@@ -129,11 +137,14 @@ fn inside(place: u32, word: u32) -> u32
     place + DEEPER
 }
 
-// The refusal of a subject that has a metavariable or is too deep, if it is good at all: 1 comes before 3, and 3 before 4.
-fn refusal_of(subject: &[u32]) -> Refusal
-    requires { ⌜ (length (now subject) ≤ 8192) × Unfit (now subject) ⌝ }
+// The refusal of a subject with such a node, which is outside the layout, a metavariable or too deep: 1 comes before 3, and 3 before 4.
+fn refusal_at(subject: &[u32], word: u32, count: u32) -> Refusal
+    requires { ⌜ (length (now subject) ≤ 8192) × Unfit (now subject) × (inLayout word count ≡ false → isGood (now subject) ≡ false) ⌝ }
     ensures { λ r. ⌜ Refused r ≡ sized (subjectIn (now (subject .entry))) ⌝ }
 {
+    if !in_layout(word, count) {
+        return Refusal::TableNotGood;
+    }
     if !good(subject) {
         return Refusal::TableNotGood;
     }
