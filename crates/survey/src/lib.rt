@@ -104,15 +104,17 @@ fn goes_in(word: u32, count: u32, place: u32) -> bool
     count <= MOST_ARGUMENTS
 }
 
-// The answer when no term is owed any more: no word may be left.
+// The answer when no term is owed any more: no word may be left. Half the words are compared, which the walk has at hand.
 fn whole(words: usize, nodes: usize) -> Sized
-    requires { ⌜ nodes ≤ 4096 ⌝ }
     ensures { λ r. ⌜ r ≡ wholeOf words nodes ⌝ }
 {
-    if words == 2 * nodes {
-        return Sized::Nodes(nodes);
+    if words / 2 != nodes {
+        return Sized::Refused(Refusal::TableNotGood);
     }
-    Sized::Refused(Refusal::TableNotGood)
+    if words % 2 != 0 {
+        return Sized::Refused(Refusal::TableNotGood);
+    }
+    Sized::Nodes(nodes)
 }
 
 // The levels that wait when a node's arguments are gone into: the node's own among them if it owes more than the node.
