@@ -229,10 +229,12 @@ module _ (word count here : ℕ) where
     where
       no : goesIn word count here ≡ true → P
       no t = let q : true ≡ false = sym t ∙ e in never (cc)
+
       more : here < 16384 → (word ≡ 196608 → ⊥) → (a b : Bool) → (a ≡ true → word < 65536) → (a ≡ false → 65536 ≤ word) → (b ≡ true → 131072 ≤ word) → (b ≡ false → word < 131072) → P
       more h n true b k l m i = let z = eqb-true count 0 (sym (layout-variable word count (k refl)) ∙ y) in absurd (c z)
       more h n false true k l m i = f (m refl) (is-metavariable y n)
       more h n false false k l m i = no (goes-symbol h n (l refl) (i refl) ∙ sym (layout-applied word count (l refl) (let j = i refl in omega arith)) ∙ y)
+
       go : (a b : Bool) → (a ≡ true → here < 16384) → (a ≡ false → 16384 ≤ here) → (b ≡ true → word ≡ 196608) → (b ≡ false → word ≡ 196608 → ⊥) → P
       go false b k l m i = g (l refl)
       go true true k l m i = no (goes-abstraction (k refl) (m refl) ∙ sym (layout-abstraction word count (m refl)) ∙ y)
@@ -517,6 +519,7 @@ module _ {subject places waiting : List ℕ} {kept here node : ℕ} (s : Surveyi
     where
       n : ℕ
       n = owing (here ∷ listed waiting kept)
+
       go : (q : Bool) → (q ≡ true → length subject ≤ 2 * node) → (q ≡ false → 2 * node < length subject) → holds n (termsIn (drop (2 * node) subject)) ≡ false
       go true f g = good-end subject (2 * node) n (f refl) ∙ ne-eqb n 0 (λ e. let o = s .owes in omega arith)
       go false f g = good-odd subject (2 * node) n (let k = g refl in omega arith)
@@ -580,6 +583,7 @@ module _ {subject places waiting : List ℕ} {kept here node : ℕ} (s : Surveyi
             where
               e : listed (set waiting kept (here - 65536)) kept ≡ listed waiting kept
               e = listed-set waiting kept kept (here - 65536) (omega arith)
+
               go : (q : Bool) → listed (set waiting kept (here - 65536)) (cond q kept (kept + 1)) ≡ cond q (listed waiting kept) ((here - 65536) ∷ listed waiting kept)
               go true = e
               go false = rw (add-one kept, getD-set-same waiting kept (here - 65536) 0 (let r = s .room in let f = s .few in omega arith), e) refl
@@ -618,11 +622,14 @@ module _ {subject places waiting : List ℕ} {kept here node : ℕ} (s : Surveyi
         where
           e : behind here (listed waiting kept) ≡ []
           e = rw (lt-ltb here 131072 k, f) refl
+
           left : holds 0 (termsIn (drop (2 * (node + 1)) subject)) ≡ isGood subject
           left = rw e at leaf-good
+
           no-good : (q : Bool) → (q ≡ true → length subject ≡ 2 * (node + 1) + 1) → (q ≡ false → length subject ≡ 2 * (node + 1) + 1 → ⊥) → (length subject ≡ 2 * (node + 1) → ⊥) → isGood subject ≡ false
           no-good true a c n = sym left ∙ good-odd subject (2 * (node + 1)) 0 (sym (a refl))
           no-good false a c n = sym left ∙ good-more subject (2 * (node + 1)) 0 (let i = c refl in omega arith) refl
+
           go : (q : Bool) → (q ≡ true → length subject ≡ 2 * (node + 1)) → (q ≡ false → length subject ≡ 2 * (node + 1) → ⊥)
               → Surveyed subject (set places node (here % 65536)) (wholeOf (length subject) (node + 1))
           go true a c =

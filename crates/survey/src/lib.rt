@@ -24,6 +24,7 @@ pub const TERM: u32 = 65536;
 
 // A level further in, and there an abstraction besides.
 pub const DEEPER: u32 = 256;
+
 pub const BOUND: u32 = 257;
 
 // The root's level: one term at depth 1, with no abstraction above it.
