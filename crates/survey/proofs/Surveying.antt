@@ -5,29 +5,29 @@ use Prim.Native.Nat.{ℕ, zero, suc, _+_, _-_, _*_, _/_, _%_, _≤_, _<_, max}
 use native.Mathlib.Nat.{add-zero}
 use native.Mathlib.Numerals.{add-one}
 use native.Mathlib.Omega.{arith}
-use mathlib.Core.Bool.{Bool, true, false, _&&_, cond}
+use mathlib.Core.Bool.{Bool, true, false, _&&_, cond, and-false}
 use mathlib.Core.List.{List, [], _∷_, _++_, append-assoc, append-nil}
 use lib.Dec.{eqb, leb, ltb, leb·suc-suc}
 use lib.ListN.{length, take, drop, getD, set, replicate, length-set}
 use lib.Seq.{length-take-le, getD-set-same, getD-set-other, take-suc-set, append-snoc}
-use borrow.Author.Tests.{le-leb, lt-leb, lt-ltb, le-ltb, ltb-true, ltb-false, eq-eqb, ne-eqb}
+use borrow.Author.Tests.{leb-true, leb-false, le-leb, lt-leb, lt-ltb, le-ltb, ltb-true, ltb-false, eqb-true, eqb-false, eq-eqb, ne-eqb}
 use Rattle.documents.specs.Limits.{planLimit, depthLimit}
 use Rattle.documents.specs.Lists.{isEmpty}
 use Rattle.documents.specs.Terms.{many, Var, Sym, Meta, Abst, Nil, Cons, Term, Terms, len}
-use Rattle.documents.specs.Tables.{nodes, depth}
+use Rattle.documents.specs.Tables.{termsIn, nodes, depth}
 use Rattle.documents.specs.Rules.{metas}
 use Rattle.documents.specs.Numbers.{tableIn, subjectIn}
-use Rattle.documents.proofs.Lists.{never, and-assoc, and-true}
+use Rattle.documents.proofs.Lists.{never, on, T-of, of-and, and-assoc, and-true}
 use Rattle.tables.specs.declared.accept.Sized.the-variants.{Nodes, Refused}
-use Rattle.tables.specs.Answers.{sized, isGood}
+use Rattle.tables.specs.Answers.{sized, isGood, inLayout}
 use Rattle.tables.specs.Parts.{held, firstTerms, terms, front, Begins}
 use Rattle.tables.proofs.Parts.{only, headed, Shape, Opened, opened, front-term, begins-less, no-terms}
 use Rattle.tables.proofs.Walks.{Walk, walk-from, walk-on, ended}
 use Rattle.tables.proofs.Sides.{metas-front, metas-here, metas-behind}
-use Rattle.tables.proofs.Accepted.{listed, listed-set, depth-headed, leb-max, first-arguments, drop-arguments, depth-positive, good-begins, accept-long, accept-bad, accept-deep, accept-good, accepted-table, subject-refused, subject-metavariable, subject-plain}
+use Rattle.tables.proofs.Accepted.{layout-variable, layout-applied, layout-abstraction, layout-other, holds, good-start, good-node, good-outside, good-more, good-odd, good-end, listed, listed-set, depth-headed, leb-max, first-arguments, drop-arguments, depth-positive, good-begins, accept-long, accept-bad, accept-deep, accept-good, accepted-table, subject-refused, subject-metavariable, subject-plain}
 use Rattle.documents.specs.declared.Refusal.{Refusal}
 use Rattle.survey.proofs.Places.{length-places}
-use Rattle.survey.specs.Places.{place, placesOf, Surveyed, below, levels}
+use Rattle.survey.specs.Places.{place, placesOf, Surveyed, Unfit, goesIn, wholeOf, below, levels}
 use Rattle.documents.specs.declared.Refusal.the-variants as refusal
 
 -- ---- Levels
@@ -152,6 +152,103 @@ module _ {kind s c : ℕ} {us vs : List Term} (o : Opened kind s c us vs) (n d :
       )
       (sym (and-assoc (leb (x + suc d) 65) (leb (y + d) 65) (shallowAt ws (drop n (o .rest)))))
 
+-- ---- The tests of the code
+
+module _ (word count here : ℕ) where
+  -- a leaf
+  layout-leaf : word < 131072 → count ≡ 0 → inLayout word count ≡ true
+  layout-leaf h z = go (ltb word 65536) (ltb-true word 65536) (ltb-false word 65536)
+    where
+      go : (q : Bool) → (q ≡ true → word < 65536) → (q ≡ false → 65536 ≤ word) → inLayout word count ≡ true
+      go true f g = layout-variable word count (f refl) ∙ eq-eqb count 0 z
+      go false f g = layout-applied word count (g refl) (omega arith) ∙ le-leb count 8 (omega arith)
+
+  -- an abstraction or a symbol, with arguments
+  pub record GoesIn : Type 0 where
+    pub above : here < 16384
+    pub layout : inLayout word count ≡ true
+    pub narrow : count ≤ 8
+    pub plain : 131072 ≤ word → word < 196608 → ⊥
+
+  pub goes-in : goesIn word count here ≡ true → GoesIn
+  unfolding goesIn
+  goes-in e =
+      let a = of-and (ltb here 16384) _ (T-of _ e) in
+      go (eqb word 196608) (eqb-true word 196608) (ltb-true here 16384 (on _ (a .0))) (on _ (a .1))
+    where
+      go : (q : Bool) → (q ≡ true → word ≡ 196608) → here < 16384 → cond q (eqb count 1) (leb 65536 word && (ltb word 131072 && leb count 8)) ≡ true → GoesIn
+      go true f h e =
+          let w = f refl in
+          let c = eqb-true count 1 e in
+          record { above = h; layout = layout-abstraction word count w ∙ e; narrow = omega arith; plain = λ lo hi. omega arith }
+      go false f h e =
+          let a = of-and (leb 65536 word) _ (T-of _ e) in
+          let b = of-and (ltb word 131072) (leb count 8) (a .1) in
+          let lo = leb-true 65536 word (on _ (a .0)) in
+          let hi = ltb-true word 131072 (on _ (b .0)) in
+          record { above = h; layout = layout-applied word count lo (omega arith) ∙ on _ (b .1); narrow = leb-true count 8 (on _ (b .1)); plain = λ p q. omega arith }
+
+  goes-deep : 16384 ≤ here → goesIn word count here ≡ false
+  unfolding goesIn
+  goes-deep h = rw (le-ltb here 16384 h) refl
+
+  pub stays-deep : 16384 ≤ here → false ≡ goesIn word count here
+  stays-deep h = sym (goes-deep h)
+
+  pub goes-abstraction : here < 16384 → word ≡ 196608 → goesIn word count here ≡ eqb count 1
+  unfolding goesIn
+  goes-abstraction h e = rw (lt-ltb here 16384 h, eq-eqb word 196608 e) refl
+
+  goes-other : here < 16384 → (word ≡ 196608 → ⊥) → goesIn word count here ≡ leb 65536 word && (ltb word 131072 && leb count 8)
+  unfolding goesIn
+  goes-other h e = rw (lt-ltb here 16384 h, ne-eqb word 196608 e) refl
+
+  pub goes-variable : here < 16384 → (word ≡ 196608 → ⊥) → word < 65536 → goesIn word count here ≡ false
+  goes-variable h e v = goes-other h e ∙ rw (lt-leb 65536 word v) refl
+
+  pub goes-past : here < 16384 → (word ≡ 196608 → ⊥) → 65536 ≤ word → 131072 ≤ word → goesIn word count here ≡ false
+  goes-past h e v m = goes-other h e ∙ rw (le-leb 65536 word v, le-ltb word 131072 m) refl
+
+  pub goes-symbol : here < 16384 → (word ≡ 196608 → ⊥) → 65536 ≤ word → word < 131072 → goesIn word count here ≡ leb count 8
+  goes-symbol h e v m = goes-other h e ∙ rw (le-leb 65536 word v, lt-ltb word 131072 m) refl
+
+  -- a node in the layout that is no abstraction, no variable and no symbol is a metavariable
+  is-metavariable : inLayout word count ≡ true → (word ≡ 196608 → ⊥) → word < 196608
+  is-metavariable y e = go (ltb word 196608) (ltb-true word 196608) (ltb-false word 196608)
+    where
+      go : (q : Bool) → (q ≡ true → word < 196608) → (q ≡ false → 196608 ≤ word) → word < 196608
+      go true f g = f refl
+      go false f g = let q : true ≡ false = sym y ∙ layout-other word count (g refl) e in never (cc)
+
+  leaf-metavariable : inLayout word count ≡ true → count ≡ 0 → word < 196608
+  leaf-metavariable y z = is-metavariable y (λ e. let o = eqb-true count 1 (sym (layout-abstraction word count e) ∙ y) in omega arith)
+
+  -- a node with arguments that is not gone into
+  stays : {P : Type 0} → inLayout word count ≡ true → (count ≡ 0 → ⊥) → goesIn word count here ≡ false → (131072 ≤ word → word < 196608 → P) → (16384 ≤ here → P) → P
+  stays {P} y c e f g = go (ltb here 16384) (eqb word 196608) (ltb-true here 16384) (ltb-false here 16384) (eqb-true word 196608) (eqb-false word 196608)
+    where
+      no : goesIn word count here ≡ true → P
+      no t = let q : true ≡ false = sym t ∙ e in never (cc)
+
+      more : here < 16384 → (word ≡ 196608 → ⊥) → (a b : Bool) → (a ≡ true → word < 65536) → (a ≡ false → 65536 ≤ word) → (b ≡ true → 131072 ≤ word) → (b ≡ false → word < 131072) → P
+      more h n true b k l m i = let z = eqb-true count 0 (sym (layout-variable word count (k refl)) ∙ y) in absurd (c z)
+      more h n false true k l m i = f (m refl) (is-metavariable y n)
+      more h n false false k l m i = no (goes-symbol h n (l refl) (i refl) ∙ sym (layout-applied word count (l refl) (let j = i refl in omega arith)) ∙ y)
+
+      go : (a b : Bool) → (a ≡ true → here < 16384) → (a ≡ false → 16384 ≤ here) → (b ≡ true → word ≡ 196608) → (b ≡ false → word ≡ 196608 → ⊥) → P
+      go false b k l m i = g (l refl)
+      go true true k l m i = no (goes-abstraction (k refl) (m refl) ∙ sym (layout-abstraction word count (m refl)) ∙ y)
+      go true false k l m i = more (k refl) (i refl) (ltb word 65536) (leb 131072 word) (ltb-true word 65536) (ltb-false word 65536) (leb-true 131072 word) (leb-false 131072 word)
+
+module _ (words n : ℕ) where
+  pub whole-all : words ≡ 2 * n → wholeOf words n ≡ Nodes n
+  unfolding wholeOf
+  whole-all e = rw (eq-eqb words (2 * n) e) refl
+
+  pub whole-more : (words ≡ 2 * n → ⊥) → wholeOf words n ≡ Refused refusal.TableNotGood
+  unfolding wholeOf
+  whole-more e = rw (ne-eqb words (2 * n) e) refl
+
 pub below-abstraction : (here word : ℕ) → word ≡ 196608 → below here word ≡ here + 257
 unfolding below
 below-abstraction here word e = rw (eq-eqb word 196608 e) refl
@@ -187,6 +284,41 @@ below-binds here word o = go (word / 65536) refl (o .shape)
     go (suc (suc (suc zero))) e h = let z = h .0 in rw (eq-eqb word 196608 (omega arith)) (omega arith)
     go (suc (suc (suc (suc kind)))) e h = absurd h
 
+-- the level of a node's arguments
+down-level : (w v c b : ℕ) → v ≡ c * 65536 + (w % 65536 + 256 + b) → b ≤ 1 → w % 65536 < 16384 → underAt w < depthAt w
+    → (owed v ≡ c) × (depthAt v ≡ suc (depthAt w)) × (underAt v ≡ underAt w + b)
+down-level w v c b e h k o = (omega arith, omega arith, omega arith)
+
+below-some : (here word : ℕ) → (b : ℕ) × (b ≤ 1) × (below here word ≡ here + 256 + b)
+unfolding below
+below-some here word = go (eqb word 196608)
+  where
+    go : (q : Bool) → (b : ℕ) × (b ≤ 1) × (cond q (here + 257) (here + 256) ≡ here + 256 + b)
+    go true = (1, omega arith, omega arith)
+    go false = (0, omega arith, omega arith)
+
+module _ (w : ℕ) (ws : List ℕ) (o : Ordered (w ∷ ws)) where
+  leaf-owing : (c : ℕ) → c ≡ 0 → owing (behind w ws) ≡ owing (w ∷ ws) - 1 + c
+  leaf-owing c z = let h = o .0 in let b = behind-owing w ws h in omega arith
+
+  down-ordered : (c word : ℕ) → w % 65536 < 16384 → 0 < c
+      → Ordered ((c * 65536 + below (w % 65536) word) ∷ behind w ws) × (owing ((c * 65536 + below (w % 65536) word) ∷ behind w ws) ≡ owing (w ∷ ws) - 1 + c)
+  down-ordered c word p z =
+      let b = below-some (w % 65536) word in
+      let v = c * 65536 + below (w % 65536) word in
+      let l = down-level w v c (b .0) (ap (λ (x : ℕ). c * 65536 + x) (b .2)) (b .1) p (o .3) in
+      let r = behind-ordered w ws (o .0) o in
+      let q = behind-owing w ws (o .0) in
+      go v (l .0) (l .1) (l .2) (b .1) (r .1) q
+    where
+      go : (v : ℕ) {b : ℕ} → owed v ≡ c → depthAt v ≡ suc (depthAt w) → underAt v ≡ underAt w + b → b ≤ 1 → length (behind w ws) ≤ suc (length ws) → owing (behind w ws) ≡ owed w - 1 + owing ws
+          → Ordered (v ∷ behind w ws) × (owing (v ∷ behind w ws) ≡ owing (w ∷ ws) - 1 + c)
+      go v a d u k n q =
+          let h = o .0 in
+          let i = o .1 in
+          let j = o .3 in
+          ((omega arith, omega arith, omega arith, omega arith, behind-ordered w ws (o .0) o .0), omega arith)
+
 -- ---- Where the walk stands
 
 pub record Standing (subject places : List ℕ) (node : ℕ) (ws : List ℕ) : Type 0 where
@@ -214,11 +346,6 @@ standing-from subject places b =
 stored : (places : List ℕ) (node w p : ℕ) (rest all : List ℕ) → node < length places → w ≡ p → take node places ++ (p ∷ rest) ≡ all
     → take (node + 1) (set places node w) ++ rest ≡ all
 stored places node w p rest all h e t = rw (add-one node, take-suc-set places node w h, append-assoc (take node places) (w ∷ []) rest, e) t
-
--- the level of a node's arguments
-down-level : (w v c b : ℕ) → v ≡ c * 65536 + (w % 65536 + 256 + b) → b ≤ 1 → w % 65536 < 16384 → underAt w < depthAt w
-    → (owed v ≡ c) × (depthAt v ≡ suc (depthAt w)) × (underAt v ≡ underAt w + b)
-down-level w v c b e h k o = (omega arith, omega arith, omega arith)
 
 some-depth : (n : ℕ) (us : List Term) → 0 < n → n ≤ length us → 0 < depth (firstTerms n us)
 some-depth zero us h k = absurd (omega arith)
@@ -285,20 +412,17 @@ module _ {subject places : List ℕ} {node here : ℕ} {ws : List ℕ} (s : Stan
   standing-leaf : node < length places → (131072 ≤ word → word < 196608 → ⊥) → count ≡ 0
       → Standing subject (set places node (here % 65536)) (node + 1) (behind here ws)
   standing-leaf h m z =
-      let o = s .ordered .0 in
-      let b = behind-owing here ws o in
-      onward (behind here ws) m (omega arith) (rw z at (noted h)) (rw (z, le-leb (0 + suc (depthAt here)) 65 (let q = s .ordered .2 in omega arith)) at looked) (behind-ordered here ws o (s .ordered) .0)
+      let o = s .ordered in
+      onward (behind here ws) m (leaf-owing here ws o count z) (rw z at (noted h))
+      (rw (z, le-leb (0 + suc (depthAt here)) 65 (let q = o .2 in omega arith)) at looked) (behind-ordered here ws (o .0) o .0)
 
-  standing-down : node < length places → (131072 ≤ word → word < 196608 → ⊥) → here % 65536 < 16384 → 0 < count → (v : ℕ) → v ≡ count * 65536 + below (here % 65536) word
-      → Standing subject (set places node (here % 65536)) (node + 1) (v ∷ behind here ws)
-  standing-down h m p z v e =
-      let o = s .ordered .0 in
-      let b = behind-owing here ws o in
-      let r = behind-ordered here ws o (s .ordered) in
-      let q = binds-few (word / 65536) in
-      let l = down-level here v count (binds (word / 65536)) (e ∙ ap (λ (x : ℕ). count * 65536 + x) (below-binds (here % 65536) word node-opened)) q p (s .ordered .3) in
-      onward (v ∷ behind here ws) m (rw (l .0) (omega arith)) (rw (l .0, l .1, l .2) (noted h)) (rw (l .0, l .1) looked)
-      (let n = l .0 in omega arith, let d = l .1 in let i = r .1 in let j = s .ordered .1 in omega arith, let d = l .1 in omega arith, let d = l .1 in let u = l .2 in let j = s .ordered .3 in omega arith, r .0)
+  standing-down : node < length places → (131072 ≤ word → word < 196608 → ⊥) → here % 65536 < 16384 → 0 < count
+      → Standing subject (set places node (here % 65536)) (node + 1) ((count * 65536 + below (here % 65536) word) ∷ behind here ws)
+  standing-down h m p z =
+      let o = s .ordered in
+      let r = down-ordered here ws o count word p z in
+      let l = down-level here _ count (binds (word / 65536)) (ap (λ (x : ℕ). count * 65536 + x) (below-binds (here % 65536) word node-opened)) (binds-few (word / 65536)) p (o .3) in
+      onward _ m (r .1) (rw (l .0, l .1, l .2) (noted h)) (rw (l .0, l .1) looked) (r .0)
 
   standing-deep : 16384 ≤ here % 65536 → 0 < count → leb (depth (front subject)) 64 ≡ false
   standing-deep p z =
@@ -317,8 +441,8 @@ surveyed-refused places r e = record { size = e; table = λ n f. never (cc) }
 pub surveyed-long : (subject places : List ℕ) → 8192 < length subject → Surveyed subject places (Refused refusal.TooManyWords)
 surveyed-long subject places h = surveyed-refused places _ (sym (subject-refused subject _ (sym (accept-long planLimit subject h))))
 
-pub surveyed-bad : (subject places : List ℕ) → length subject ≤ 8192 → isGood subject ≡ false → Surveyed subject places (Refused refusal.TableNotGood)
-surveyed-bad subject places h g = surveyed-refused places _ (sym (subject-refused subject _ (sym (accept-bad planLimit subject h g))))
+pub refused-bad : (subject : List ℕ) → length subject ≤ 8192 → isGood subject ≡ false → Refused refusal.TableNotGood ≡ sized (subjectIn subject)
+refused-bad subject h g = sym (subject-refused subject _ (sym (accept-bad planLimit subject h g)))
 
 module _ (subject : List ℕ) (g : isGood subject ≡ true) (l : length subject ≤ 8192) where
   pub refused-deep : leb (depth (front subject)) 64 ≡ false → Refused refusal.TooDeep ≡ sized (subjectIn subject)
@@ -327,8 +451,11 @@ module _ (subject : List ℕ) (g : isGood subject ≡ true) (l : length subject 
   accepted : leb (depth (front subject)) 64 ≡ true → Nodes (length subject / 2) ≡ sized (tableIn planLimit subject)
   accepted d = sym (accept-good planLimit subject l g d)
 
-  pub refused-metavariable : leb (depth (front subject)) 64 ≡ true → isEmpty (metas (front subject)) ≡ false → Refused refusal.MetavariableInSubject ≡ sized (subjectIn subject)
+  refused-metavariable : leb (depth (front subject)) 64 ≡ true → isEmpty (metas (front subject)) ≡ false → Refused refusal.MetavariableInSubject ≡ sized (subjectIn subject)
   refused-metavariable d m = sym (subject-metavariable (accepted-table planLimit subject _ (accepted d)) m)
+
+  pub refused-unfit : Unfit subject → leb (depth (front subject)) 64 ≡ true → Refused refusal.MetavariableInSubject ≡ sized (subjectIn subject)
+  refused-unfit u d = refused-metavariable d (rw d at (u g))
 
   surveyed-whole : (places : List ℕ) (n : ℕ) → n ≤ length places → Standing subject places n [] → Surveyed subject places (Nodes n)
   surveyed-whole places n h s =
@@ -347,13 +474,15 @@ module _ (subject : List ℕ) (g : isGood subject ≡ true) (l : length subject 
 
 -- ---- The levels in an array
 
+-- Whether the table is good is not known yet: it is if the words behind the node hold as many terms as are owed. If it is, the walk stands so.
 pub record Surveying (subject places waiting : List ℕ) (kept here node : ℕ) : Type 0 where
-  pub standing : Standing subject places node (here ∷ listed waiting kept)
-  pub good : isGood subject ≡ true
+  pub good : holds (owing (here ∷ listed waiting kept)) (termsIn (drop (2 * node) subject)) ≡ isGood subject
+  pub standing : isGood subject ≡ true → Standing subject places node (here ∷ listed waiting kept)
+  pub ordered : Ordered (here ∷ listed waiting kept)
   pub short : length subject ≤ 8192
   pub wide : 4096 ≤ length places
   pub room : length waiting ≡ 64
-  pub within : 2 * node + 2 ≤ length subject
+  pub within : 2 * node ≤ length subject
   pub owes : 65536 ≤ here
   pub few : kept < 64
 
@@ -361,75 +490,151 @@ length-listed : (l : List ℕ) (k : ℕ) → length (listed l k) ≡ k
 length-listed l zero = refl
 length-listed l (suc k) = ap suc (length-listed l k)
 
-surveying-at : {subject places waiting : List ℕ} {kept here node : ℕ} → Standing subject places node (here ∷ listed waiting kept) → isGood subject ≡ true → length subject ≤ 8192
-    → 4096 ≤ length places → length waiting ≡ 64 → Surveying subject places waiting kept here node
-surveying-at {waiting = waiting} {kept} {here} s g l p r = record {
-  standing = s;
-  good = g;
-  short = l;
-  wide = p;
-  room = r;
-  within = let w = s .walk .within in let o = s .ordered .0 in omega arith;
-  owes = s .ordered .0;
-  few = let n = length-listed waiting kept in let o = s .ordered .1 in let q = s .ordered .2 in omega arith;
-}
+surveying-at : {subject places waiting : List ℕ} {kept here node : ℕ} (ws : List ℕ) → here ∷ listed waiting kept ≡ ws → holds (owing ws) (termsIn (drop (2 * node) subject)) ≡ isGood subject
+    → (isGood subject ≡ true → Standing subject places node ws) → Ordered ws → length subject ≤ 8192 → 4096 ≤ length places → length waiting ≡ 64 → 2 * node ≤ length subject
+    → Surveying subject places waiting kept here node
+surveying-at {waiting = waiting} {kept} {here} ws e g s o l p r w =
+    let q = rw (← e) at o in
+    record {
+      good = rw (← e) at g;
+      standing = rw (← e) at s;
+      ordered = q;
+      short = l;
+      wide = p;
+      room = r;
+      within = w;
+      owes = q .0;
+      few = let n = length-listed waiting kept in let i = q .1 in let j = q .2 in omega arith;
+    }
 
-pub surveying-from : {subject : List ℕ} (places : List ℕ) → (isGood subject ≡ true) × (length subject ≤ 8192) × (4096 ≤ length places)
-    → Surveying subject places (replicate 64 0) 0 65792 0
-surveying-from {subject} places h = surveying-at (standing-from subject places (good-begins subject (h .0) .0)) (h .0) (h .1) (h .2) refl
+pub surveying-from : {subject : List ℕ} (places : List ℕ) → (length subject ≤ 8192) × (4096 ≤ length places) → Surveying subject places (replicate 64 0) 0 65792 0
+surveying-from {subject} places h =
+    surveying-at (65792 ∷ []) refl (sym (good-start subject)) (λ g. standing-from subject places (good-begins subject g .0)) (omega arith, omega arith, omega arith, omega arith, tt) (h .0) (h .1) refl
+    (omega arith)
 
 module _ {subject places waiting : List ℕ} {kept here node : ℕ} (s : Surveying subject places waiting kept here node) where
-  spot : node < length places
-  spot = let w = s .within in let l = s .short in let p = s .wide in omega arith
+  -- the words run out
+  pub surveying-short : length subject ≤ 2 * node + 1 → Refused refusal.TableNotGood ≡ sized (subjectIn subject)
+  surveying-short h = refused-bad subject (s .short) (sym (s .good) ∙ go (leb (length subject) (2 * node)) (leb-true (length subject) (2 * node)) (leb-false (length subject) (2 * node)))
+    where
+      n : ℕ
+      n = owing (here ∷ listed waiting kept)
 
-  wide-on : (w : ℕ) → 4096 ≤ length (set places node w)
-  wide-on w = simp length-set (s .wide)
+      go : (q : Bool) → (q ≡ true → length subject ≤ 2 * node) → (q ≡ false → 2 * node < length subject) → holds n (termsIn (drop (2 * node) subject)) ≡ false
+      go true f g = good-end subject (2 * node) n (f refl) ∙ ne-eqb n 0 (λ e. let o = s .owes in omega arith)
+      go false f g = good-odd subject (2 * node) n (let k = g refl in omega arith)
 
-  pub surveying-arguments : getD subject (2 * node + 1) 0 ≤ 8
-  surveying-arguments = few-arguments (s .standing)
+  module _ (h : 2 * node + 1 < length subject) where
+    abbrev word′ : ℕ
+    word′ = getD subject (2 * node) 0
 
-  pub surveying-metavariable : 131072 ≤ getD subject (2 * node) 0 → getD subject (2 * node) 0 < 196608 → isEmpty (metas (front subject)) ≡ false
-  surveying-metavariable = standing-metavariable (s .standing)
+    abbrev count′ : ℕ
+    count′ = getD subject (2 * node + 1) 0
 
-  pub surveying-deep : (places′ : List ℕ) → 16384 ≤ here % 65536 → (getD subject (2 * node + 1) 0 ≡ 0 → ⊥) → Surveyed subject places′ (Refused refusal.TooDeep)
-  surveying-deep places′ p c = surveyed-refused places′ _ (refused-deep subject (s .good) (s .short) (standing-deep (s .standing) p (omega arith)))
+    outside : inLayout word′ count′ ≡ false → isGood subject ≡ false
+    outside e = sym (s .good) ∙ good-outside subject (2 * node) _ (omega arith) e
 
-  module _ (m : 131072 ≤ getD subject (2 * node) 0 → getD subject (2 * node) 0 < 196608 → ⊥) where
-    -- a node with arguments
-    pub surveying-down : here % 65536 < 16384 → (getD subject (2 * node + 1) 0 ≡ 0 → ⊥)
-        → Surveying subject (set places node (here % 65536)) (set waiting kept (here - 65536)) (levels kept here) (getD subject (2 * node + 1) 0 * 65536 + below (here % 65536) (getD subject (2 * node) 0)) (node + 1)
-    unfolding levels
-    surveying-down p c =
-        surveying-at (rw kept-behind (standing-down (s .standing) spot m p (omega arith) _ refl)) (s .good) (s .short) (wide-on _) (simp length-set (s .room))
+    -- a node of a good table is in the layout
+    in-good : isGood subject ≡ true → inLayout word′ count′ ≡ true
+    in-good g = go (inLayout word′ count′) refl
       where
-        kept-behind : listed (set waiting kept (here - 65536)) (levels kept here) ≡ behind here (listed waiting kept)
-        kept-behind = go (ltb here 131072)
-          where
-            e : listed (set waiting kept (here - 65536)) kept ≡ listed waiting kept
-            e = listed-set waiting kept kept (here - 65536) (omega arith)
-            go : (q : Bool) → listed (set waiting kept (here - 65536)) (cond q kept (kept + 1)) ≡ cond q (listed waiting kept) ((here - 65536) ∷ listed waiting kept)
-            go true = e
-            go false = rw (add-one kept, getD-set-same waiting kept (here - 65536) 0 (let r = s .room in let f = s .few in omega arith), e) refl
+        go : (q : Bool) → inLayout word′ count′ ≡ q → q ≡ true
+        go true e = refl
+        go false e = let q : true ≡ false = sym g ∙ outside e in never (cc)
 
-    -- a node without arguments, of which more are owed at its level
-    pub surveying-more : getD subject (2 * node + 1) 0 ≡ 0 → 131072 ≤ here → Surveying subject (set places node (here % 65536)) waiting kept (here - 65536) (node + 1)
-    surveying-more z h =
-        surveying-at (rw (le-ltb here 131072 h) at (standing-leaf (s .standing) spot m z)) (s .good) (s .short) (wide-on _) (s .room)
+    abbrev Refusable : Type 0
+    Refusable = (length subject ≤ 8192) × Unfit subject × (inLayout word′ count′ ≡ false → isGood subject ≡ false)
 
-    -- the last of its level: the next level that waits
-    pub surveying-up : getD subject (2 * node + 1) 0 ≡ 0 → here < 131072 → (kept ≡ 0 → ⊥)
-        → Surveying subject (set places node (here % 65536)) waiting (kept - 1) (getD waiting (kept - 1) 0) (node + 1)
-    surveying-up z h k =
-        surveying-at (rw e at (rw (lt-ltb here 131072 h) at (standing-leaf (s .standing) spot m z))) (s .good) (s .short) (wide-on _) (s .room)
-      where
-        go : (k : ℕ) → (k ≡ 0 → ⊥) → listed waiting k ≡ getD waiting (k - 1) 0 ∷ listed waiting (k - 1)
-        go zero f = absurd (f refl)
-        go (suc k) f = let q : suc k - 1 ≡ k = omega arith in rw q refl
-        e : listed waiting kept ≡ getD waiting (kept - 1) 0 ∷ listed waiting (kept - 1)
-        e = go kept k
+    with-metavariable : isGood subject ≡ true → 131072 ≤ word′ → word′ < 196608 → leb (depth (front subject)) 64 && isEmpty (metas (front subject)) ≡ false
+    with-metavariable g lo hi = rw (standing-metavariable (s .standing g) lo hi) (and-false (leb (depth (front subject)) 64))
 
-    -- the last of all
-    pub surveying-end : getD subject (2 * node + 1) 0 ≡ 0 → here < 131072 → kept ≡ 0 → Surveyed subject (set places node (here % 65536)) (Nodes (node + 1))
-    surveying-end z h k =
-        surveyed-whole subject (s .good) (s .short) _ (node + 1) (simp length-set (let p = spot in omega arith))
-        (rw (lt-ltb here 131072 h, k) at (standing-leaf (s .standing) spot m z))
+    pub refused-leaf : count′ ≡ 0 → 131072 ≤ word′ → Refusable
+    refused-leaf z lo = (s .short, λ g. with-metavariable g lo (leaf-metavariable word′ count′ 0 (in-good g) z), outside)
+
+    pub refused-stays : (count′ ≡ 0 → ⊥) → goesIn word′ count′ (here % 65536) ≡ false → Refusable
+    refused-stays c e =
+        (s .short, λ g. stays word′ count′ (here % 65536) (in-good g) c e (with-metavariable g) (λ p. rw (standing-deep (s .standing g) p (omega arith)) refl), outside)
+
+    spot : node < length places
+    spot = let l = s .short in let p = s .wide in omega arith
+
+    wide-on : (w : ℕ) → 4096 ≤ length (set places node w)
+    wide-on w = simp length-set (s .wide)
+
+    module _ (y : inLayout word′ count′ ≡ true) where
+      good-on : (vs : List ℕ) → owing vs ≡ owing (here ∷ listed waiting kept) - 1 + count′ → holds (owing vs) (termsIn (drop (2 * (node + 1)) subject)) ≡ isGood subject
+      good-on vs e =
+          let o = s .owes in
+          let n : 2 * (node + 1) ≡ 2 * node + 2 = omega arith in
+          rw (e, n) (sym (good-node subject (2 * node) (owing (here ∷ listed waiting kept)) (omega arith) (omega arith) y) ∙ s .good)
+
+      -- a node with arguments
+      surveying-in : GoesIn word′ count′ (here % 65536) → (count′ ≡ 0 → ⊥)
+          → Surveying subject (set places node (here % 65536)) (set waiting kept (here - 65536)) (levels kept here) (count′ * 65536 + below (here % 65536) word′) (node + 1)
+      unfolding levels
+      surveying-in i c =
+          let p = i .above in
+          let r = down-ordered here (listed waiting kept) (s .ordered) count′ word′ p (omega arith) in
+          surveying-at _ (ap (λ (l : List ℕ). (count′ * 65536 + below (here % 65536) word′) ∷ l) kept-behind) (good-on ((count′ * 65536 + below (here % 65536) word′) ∷ behind here (listed waiting kept)) (r .1))
+          (λ g. standing-down (s .standing g) spot (i .plain) p (omega arith)) (r .0) (s .short) (wide-on _) (simp length-set (s .room)) (omega arith)
+        where
+          kept-behind : listed (set waiting kept (here - 65536)) (levels kept here) ≡ behind here (listed waiting kept)
+          kept-behind = go (ltb here 131072)
+            where
+              e : listed (set waiting kept (here - 65536)) kept ≡ listed waiting kept
+              e = listed-set waiting kept kept (here - 65536) (omega arith)
+
+              go : (q : Bool) → listed (set waiting kept (here - 65536)) (cond q kept (kept + 1)) ≡ cond q (listed waiting kept) ((here - 65536) ∷ listed waiting kept)
+              go true = e
+              go false = rw (add-one kept, getD-set-same waiting kept (here - 65536) 0 (let r = s .room in let f = s .few in omega arith), e) refl
+
+    pub surveying-down : goesIn word′ count′ (here % 65536) ≡ true → (count′ ≡ 0 → ⊥)
+        → Surveying subject (set places node (here % 65536)) (set waiting kept (here - 65536)) (levels kept here) (count′ * 65536 + below (here % 65536) word′) (node + 1)
+    surveying-down e c = let i = goes-in word′ count′ (here % 65536) e in surveying-in (i .layout) i c
+
+    module _ (z : count′ ≡ 0) (v : word′ < 131072) where
+      leaf-good : holds (owing (behind here (listed waiting kept))) (termsIn (drop (2 * (node + 1)) subject)) ≡ isGood subject
+      leaf-good = good-on (layout-leaf word′ count′ 0 v z) (behind here (listed waiting kept)) (leaf-owing here (listed waiting kept) (s .ordered) count′ z)
+
+      leaf-standing : isGood subject ≡ true → Standing subject (set places node (here % 65536)) (node + 1) (behind here (listed waiting kept))
+      leaf-standing g = standing-leaf (s .standing g) spot (λ lo hi. omega arith) z
+
+      leaf-ordered : Ordered (behind here (listed waiting kept))
+      leaf-ordered = behind-ordered here (listed waiting kept) (s .owes) (s .ordered) .0
+
+      -- a node without arguments, of which more are owed at its level
+      pub surveying-more : 131072 ≤ here → Surveying subject (set places node (here % 65536)) waiting kept (here - 65536) (node + 1)
+      surveying-more k =
+          surveying-at (behind here (listed waiting kept)) (rw (le-ltb here 131072 k) refl) leaf-good leaf-standing leaf-ordered (s .short) (wide-on _) (s .room) (omega arith)
+
+      -- the last of its level: the next level that waits
+      pub surveying-up : here < 131072 → (kept ≡ 0 → ⊥) → Surveying subject (set places node (here % 65536)) waiting (kept - 1) (getD waiting (kept - 1) 0) (node + 1)
+      surveying-up k f =
+          surveying-at (behind here (listed waiting kept)) (rw (lt-ltb here 131072 k) (sym (go kept f))) leaf-good leaf-standing leaf-ordered (s .short) (wide-on _) (s .room) (omega arith)
+        where
+          go : (k : ℕ) → (k ≡ 0 → ⊥) → listed waiting k ≡ getD waiting (k - 1) 0 ∷ listed waiting (k - 1)
+          go zero f = absurd (f refl)
+          go (suc k) f = let q : suc k - 1 ≡ k = omega arith in rw q refl
+
+      -- the last of all
+      pub surveying-end : here < 131072 → kept ≡ 0 → Surveyed subject (set places node (here % 65536)) (wholeOf (length subject) (node + 1))
+      surveying-end k f = go (eqb (length subject) (2 * (node + 1))) (eqb-true (length subject) (2 * (node + 1))) (eqb-false (length subject) (2 * (node + 1)))
+        where
+          e : behind here (listed waiting kept) ≡ []
+          e = rw (lt-ltb here 131072 k, f) refl
+
+          left : holds 0 (termsIn (drop (2 * (node + 1)) subject)) ≡ isGood subject
+          left = rw e at leaf-good
+
+          no-good : (q : Bool) → (q ≡ true → length subject ≡ 2 * (node + 1) + 1) → (q ≡ false → length subject ≡ 2 * (node + 1) + 1 → ⊥) → (length subject ≡ 2 * (node + 1) → ⊥) → isGood subject ≡ false
+          no-good true a c n = sym left ∙ good-odd subject (2 * (node + 1)) 0 (sym (a refl))
+          no-good false a c n = sym left ∙ good-more subject (2 * (node + 1)) 0 (let i = c refl in omega arith) refl
+
+          go : (q : Bool) → (q ≡ true → length subject ≡ 2 * (node + 1)) → (q ≡ false → length subject ≡ 2 * (node + 1) → ⊥)
+              → Surveyed subject (set places node (here % 65536)) (wholeOf (length subject) (node + 1))
+          go true a c =
+              let g : isGood subject ≡ true = sym left ∙ good-end subject (2 * (node + 1)) 0 (let i = a refl in omega arith) in
+              rw (whole-all (length subject) (node + 1) (a refl)) (surveyed-whole subject g (s .short) _ (node + 1) (simp length-set (let p = spot in omega arith)) (rw e at (leaf-standing g)))
+          go false a c =
+              rw (whole-more (length subject) (node + 1) (c refl))
+              (surveyed-refused _ _ (refused-bad subject (s .short) (no-good (eqb (length subject) (2 * (node + 1) + 1)) (eqb-true (length subject) (2 * (node + 1) + 1)) (eqb-false (length subject) (2 * (node + 1) + 1)) (c refl))))

@@ -73,7 +73,7 @@ pub fn good(table: &[u32]) -> bool
 }
 
 // Whether a node's words are such as 01's table of kinds has them.
-fn in_layout(word: u32, count: u32) -> bool
+pub fn in_layout(word: u32, count: u32) -> bool
     ensures { λ r. ⌜ r ≡ inLayout word count ⌝ }
 {
     if word < FIRST_SYMBOL {
