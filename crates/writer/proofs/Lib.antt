@@ -1,0 +1,3 @@
+pub mod Writings
+pub mod Opened
+pub mod Moves
