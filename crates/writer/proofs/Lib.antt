@@ -1,3 +1,7 @@
 pub mod Writings
 pub mod Opened
 pub mod Moves
+pub mod Spreading
+pub mod Rooting
+pub mod Entries
+pub mod Freed

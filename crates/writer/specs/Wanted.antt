@@ -1,17 +1,17 @@
 -- What the walk that writes a result is asked to write: the words of trees that stand in the code with their links.
 use mathlib.Core.Path.{_≡_}
-use Prim.Native.Nat.{ℕ, _+_, _-_, _*_, _/_, _≤_, _<_}
+use Prim.Native.Nat.{ℕ, _+_, _-_, _*_, _≤_, _<_}
 use mathlib.Core.Bool.{Bool, true, _&&_, cond}
-use mathlib.Core.List.{List, [], _++_}
+use mathlib.Core.List.{List}
 use lib.Dec.{eqb}
 use lib.ListN.{length, getD, drop}
 use Rattle.documents.specs.Lists.{assoc, pairlists}
 use Rattle.documents.specs.Terms.{Sort, one, many}
-use Rattle.documents.specs.Instructions.{opPUSHIMM, opPUSHI}
+use Rattle.documents.specs.Instructions.{opPUSHIMM}
 use Rattle.trees.specs.Trees.{Tree, Pushed, count, orMovedWords, inOrder, wordsOf}
 use Rattle.links.specs.Bodies.{keyPlace}
-use Rattle.links.specs.Nodewise.{isFree, total, nodeWords, seenAt}
-use Rattle.links.specs.Standing.{entryPlace, entryAt, Scene, Safe, Spot, root, last, Stands}
+use Rattle.links.specs.Nodewise.{isFree, seenAt}
+use Rattle.links.specs.Standing.{entryAt, Scene, Safe, Spot, root, last, Stands}
 
 -- The setting of the walk: OFFSET and `opened`, that holds OFFSET at each of l open LAMBDAs. A body's words are fewer than those around it, and it stands
 -- under fewer than 64 abstractions of its entry, so OFFSET stays small.
@@ -50,17 +50,6 @@ module _ (code subject entries work : List ℕ) (words l : ℕ) where
       pub tree : Tree one
       pub standing : Standing tree (root z)
       pub these : ws ≡ wordsOf (entryAt subject entries) tree offset nst
-
-    -- of the first k nodes of the entry of a PUSHI
-    pub record PartAt (z k : ℕ) (ws : List ℕ) : Type 0 where
-      pub e : ℕ
-      pub D : ℕ
-      pub ks : List ℕ
-      pub bodies : Tree many
-      pub standing : Standing (Pushed e D ks bodies) (root z)
-      pub these : ws ≡ total _++_ []
-          (nodeWords (assoc (pairlists ks (wordsOf (entryAt subject entries) bodies))) D offset nst (getD (drop 4096 work) (entryPlace entries e / 2) 0))
-          k (drop (entryPlace entries e) subject) (drop (entryPlace entries e / 2) (drop 4096 work))
 
     -- of a variable x, free under n abstractions of the entry of a PUSHI
     pub record FreeAt (z x n : ℕ) (ws : List ℕ) : Type 0 where
