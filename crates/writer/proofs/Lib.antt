@@ -5,3 +5,4 @@ pub mod Spreading
 pub mod Rooting
 pub mod Entries
 pub mod Freed
+pub mod Walking
