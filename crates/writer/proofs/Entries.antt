@@ -15,6 +15,7 @@ use Rattle.documents.specs.Tables.{tableOf, Fits, nodes, depth}
 use Rattle.documents.proofs.Lists.{on, T-of, of-and}
 use Rattle.documents.proofs.Tables.{length-tableOf}
 use Rattle.trees.specs.Trees.{Tree, Cell, Block, Bound, Whole, Pushed, Leaf, More, count, Writer, orMovedWords, spreadWords, wordsOf}
+use Rattle.trees.proofs.Sizes.{depth-positive, depth-nodes}
 use Rattle.survey.specs.Places.{place, placesOf}
 use Rattle.survey.proofs.Places.{length-places}
 use Rattle.links.specs.Bodies.{keyPlace}
@@ -82,6 +83,17 @@ entry-words {subject = subject} {entries = entries} sc e h first last f g =
     let n = entered sc e h in
     let a = entryAt subject entries e in
     table-part a (drop first subject) (n .later) (last - first) (ap (λ i. drop i subject) f ∙ n .words) (omega arith)
+
+-- the part of the subject that an instruction's entry takes
+pub named-part : {code subject entries work : List ℕ} → Scene code subject entries work → {z : ℕ} → NamedAt code subject entries work z
+    → (entryPlace entries (getD code (z + 1) 0) + 2 ≤ getD work (z + 1) 0) × (getD work (z + 1) 0 ≤ length subject)
+named-part {code = code} {subject = subject} {entries = entries} sc {z} n =
+    let a = entryAt subject entries (getD code (z + 1) 0) in
+    let w = entered sc (getD code (z + 1) 0) (n .there) .within in
+    let e = n .end in
+    let h = depth-positive a in
+    let k = depth-nodes a in
+    (omega arith, omega arith)
 
 still-is : (code : List ℕ) (z offset : ℕ) → getD code z 0 ≡ 13 → movesNothing code z offset ≡ true → (getD code (z + 3) 0 ≡ 0) × (getD code (z + 2) 0 + offset ≡ 64)
 unfolding movesNothing

@@ -186,7 +186,17 @@ module _ {code subject entries work : List ℕ} {words l offset : ℕ} {nst : Li
         go ws (Whole x) s e = absurd (omega (arith, below, s .stands .0 .is))
         go ws (Pushed x D ks ps) s e = absurd (omega (arith, below, s .stands .0 .is))
 
-  -- ---- A PUSHVAR
+  -- ---- A PUSHVAR, PUSHIMM or PUSHI
+
+  pub leaf-within : {z : ℕ} {ws : List ℕ} → 11 ≤ getD code z 0 → TreeAt code subject entries work words l offset nst z ws → z + 1 < length code
+  leaf-within {z = z} above t = go (t .tree) (t .standing)
+    where
+      go : (p : Tree one) → Standing code subject entries work words l p (root z) → z + 1 < length code
+      go (Cell x ps) s = absurd (omega (arith, above, s .stands .0 .is))
+      go (Block p) s = absurd (omega (arith, above, s .stands .0 .is))
+      go (Bound x) s = omega (arith, s .stands .0 .high, s .short)
+      go (Whole e) s = omega (arith, s .stands .0 .high, s .short)
+      go (Pushed e D ks ps) s = omega (arith, s .stands .0 .high, s .short)
 
   module _ {z : ℕ} (op : getD code z 0 ≡ 11) where
     pub tree-bound : {ws : List ℕ} → TreeAt code subject entries work words l offset nst z ws → BoundAt code l z

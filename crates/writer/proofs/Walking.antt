@@ -14,9 +14,9 @@ use Rattle.links.specs.Standing.{entryPlace, entryAt, Scene}
 use Rattle.writer.specs.Written.{Wrote, Writes, Room, nstack}
 use Rattle.writer.specs.Wanted.{Ready, TreesAt, TreeAt, FreeAt, Met}
 use Rattle.writer.proofs.Writings.{wrote-none, Splits, Exactly, writes-from, room-from, writes-then, room-last, room-rest, writes-below, writes-exactly}
-use Rattle.writer.proofs.Opened.{opened-same, nstack-same, nstack-open}
+use Rattle.writer.proofs.Opened.{opened-same, nstack-same, nstack-open, nstack-at}
 use Rattle.writer.proofs.Spreading.{Below}
-use Rattle.writer.proofs.Rooting.{At, tree-root, trees-none, trees-split, cell-split, block-split}
+use Rattle.writer.proofs.Rooting.{At, tree-root, trees-none, trees-split, cell-split, block-split, tree-bound, bound-words}
 use Rattle.writer.proofs.Entries.{NamedAt, PartAt, NodeAt, tree-named, tree-part, part-none, part-split, part-met, node-within, place-below, node-free, node-kept}
 
 -- ---- A measure by two numbers, shut so that `omega` takes it as an unknown
@@ -103,6 +103,24 @@ module _ {All Rear : List ℕ → Type 0} {x c : ℕ} (s : Splits All (Exactly (
 pub two-written : {All Rear : List ℕ → Type 0} {x c : ℕ} (s : Splits All (Exactly (x ∷ c ∷ [])) Rear) {d e f : List ℕ} {r to end : ℕ} → Writes Rear d e to end
     → Wrote e f r to (x ∷ c ∷ []) → Writes All d f r end
 two-written s u w = writes-then s u (writes-exactly (λ ws h. h) w)
+
+-- ---- A PUSHVAR
+
+-- its index, moved by the abstractions that were added since its LAMBDA
+abbrev boundWord : (code o : List ℕ) (l offset z : ℕ) → ℕ
+boundWord code o l offset z = getD code (z + 1) 0 + (offset - getD o (l - 1 - getD code (z + 1) 0) 0)
+
+module _ {code subject entries work : List ℕ} (o : List ℕ) {words l offset z : ℕ} (op : getD code z 0 ≡ 11) where
+  bound-as : (ws : List ℕ) → TreeAt code subject entries work words l offset (nstack offset l o) z ws → ws ≡ boundWord code o l offset z ∷ 0 ∷ []
+  bound-as ws t =
+      bound-words op ws t ∙ ap (λ y. (getD code (z + 1) 0 + y) ∷ 0 ∷ []) (nstack-at offset l (getD code (z + 1) 0) o (tree-bound op t .low))
+
+  pub bound-fits : {end : ℕ} → Room (TreeAt code subject entries work words l offset (nstack offset l o) z) end → 2 ≤ end
+  bound-fits m = let n = ap length (bound-as (m .words) (m .wanted)) in let f = m .fit in omega arith
+
+  pub bound-written : {d e : List ℕ} {r end : ℕ} → Wrote d e r end (boundWord code o l offset z ∷ 0 ∷ [])
+      → Writes (TreeAt code subject entries work words l offset (nstack offset l o) z) d e r end
+  bound-written w = writes-exactly (λ ws t. bound-as ws t) w
 
 -- ---- From tree to tree
 
