@@ -1,9 +1,9 @@
 -- The entry of a PUSHIMM or PUSHI: its words in the subject, copied or node by node.
 use mathlib.Core.Path.{_≡_, refl, sym, ap, ap₂, _∙_}
-use Prim.Native.Nat.{ℕ, zero, suc, _+_, _-_, _*_, _/_, _%_, _≤_, _<_}
+use Prim.Native.Nat.{ℕ, suc, _+_, _-_, _*_, _/_, _≤_, _<_}
 use native.Mathlib.Omega.{arith}
 use mathlib.Core.Bool.{Bool, true, false, _&&_, cond}
-use mathlib.Core.Option.{Option, none, some}
+use mathlib.Core.Option.{Option, none}
 use mathlib.Core.List.{List, [], _∷_, _++_, append-assoc, append-nil}
 use lib.Dec.{eqb}
 use lib.ListN.{length, getD, take, drop, length-drop, length-append}
@@ -20,9 +20,9 @@ use Rattle.survey.specs.Places.{place, placesOf}
 use Rattle.survey.proofs.Places.{length-places}
 use Rattle.links.specs.Bodies.{keyPlace}
 use Rattle.links.specs.Nodewise.{isFree, total, insideOf, nodeWords, seenAt, nodeSeen}
-use Rattle.links.specs.Standing.{entryPlace, entryAt, Scene, Spot, root}
+use Rattle.links.specs.Standing.{entryPlace, entryAt, Scene, root}
 use Rattle.links.proofs.Gathered.{gathered, total-is}
-use Rattle.links.proofs.Entered.{Entered, entered}
+use Rattle.links.proofs.Entered.{entered}
 use Rattle.writer.specs.Wanted.{movesNothing, Standing, TreeAt, FreeAt, Met}
 use Rattle.writer.proofs.Writings.{Splits}
 use Rattle.writer.proofs.Spreading.{spread-is, spread-same, total-none, total-more, total-each, Below, node-below}
@@ -137,6 +137,7 @@ module _ {code subject entries work : List ℕ} {words l offset : ℕ} {nst : Li
         words-are : (e : ℕ) → getD code (z + 1) 0 ≡ e → e < length entries → getD work (z + 1) 0 ≡ entryPlace entries e + 2 * nodes (entryAt subject entries e)
             → tableOf (entryAt subject entries e) ≡ take (last - first) (drop first subject)
         words-are e p h q = entry-words sc e h first last (f ∙ ap (entryPlace entries) p) (g ∙ q)
+
         go : (p : Tree one) → Standing code subject entries work words l p (root z) → ws ≡ wordsOf (entryAt subject entries) p offset nst
             → ws ≡ take (last - first) (drop first subject)
         go (Cell x ps) s e = absurd (omega (arith, above, s .stands .0 .is))
@@ -173,6 +174,7 @@ module _ {code subject entries work : List ℕ} {words l offset : ℕ} {nst : Li
                 (drop (entryPlace entries e) subject) (drop (entryPlace entries e / 2) (drop 4096 work)) (n .later) (n .laterPlaces)
                 (getD (drop 4096 work) (entryPlace entries e / 2) 0) (n .level) (n .above) (n .words) (n .placed-so) (n .root) (n .fits) (omega arith);
           }
+
       go : (p : Tree one) → Standing code subject entries work words l p (root z) → ws ≡ wordsOf (entryAt subject entries) p offset nst
           → PartAt code subject entries work words l offset nst (getD code (z + 1) 0) z (nodes (entryAt subject entries (getD code (z + 1) 0))) ws
       go (Cell x ps) s e = absurd (omega (arith, op, s .stands .0 .is))

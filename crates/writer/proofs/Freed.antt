@@ -1,24 +1,23 @@
 -- A variable that is free in an entry: its body, found behind its key, or its own index.
 use mathlib.Core.Path.{_≡_, refl, sym, ap, _∙_}
 use mathlib.Core.Logic.{_⊎_, inl, inr, ⊎-elim}
-use Prim.Native.Nat.{ℕ, zero, suc, _+_, _-_, _*_, _≤_, _<_}
+use Prim.Native.Nat.{ℕ, _+_, _-_, _*_, _≤_, _<_}
 use native.Mathlib.Omega.{arith}
 use mathlib.Core.Bool.{Bool, true, false, not, cond}
 use mathlib.Core.Option.{Option, none, some}
-use mathlib.Core.List.{List, [], _∷_, _++_, map, append-nil}
+use mathlib.Core.List.{List, [], _∷_, map, append-nil}
 use lib.Dec.{eqb, leb, ltb}
 use lib.ListN.{length, getD, drop}
 use borrow.Author.Tests.{eq-eqb, leb-true, ltb-true}
 use Rattle.documents.specs.Lists.{assoc, pairlists}
 use Rattle.documents.specs.Terms.{one, many}
 use Rattle.documents.proofs.Lists.{never, on, T-of, of-and}
-use Rattle.trees.specs.Trees.{Tree, Pushed, Leaf, More, count, Writer, orMovedWords, wordsOf}
-use Rattle.links.specs.declared.find.Found.{Found}
+use Rattle.trees.specs.Trees.{Tree, Leaf, More, count, Writer, orMovedWords, wordsOf}
 use Rattle.links.specs.declared.find.Found.the-variants.{Key, Missing}
 use Rattle.links.specs.Bodies.{bodyEnd, Readable, keyPlace, foundAt}
 use Rattle.links.specs.Nodewise.{isFree, seenAt}
-use Rattle.links.specs.Standing.{entryAt, Safe, Spot, root, last, held, Stands}
-use Rattle.writer.specs.Wanted.{Standing, TreesAt, FreeAt, Met}
+use Rattle.links.specs.Standing.{entryAt, Safe, root, held, Stands}
+use Rattle.writer.specs.Wanted.{TreesAt, FreeAt, Met}
 
 pub key-found : (o : Option ℕ) (key : ℕ) → foundAt o ≡ Key key → o ≡ some key
 key-found none key e = never (cc)
@@ -59,8 +58,10 @@ module _ (code subject entries work : List ℕ) (lo hi l : ℕ) where
     where
       measured : (getD work q 0 ≡ 0) ⊎ Stands code subject entries (drop 4096 work) (q + 2) (bodyEnd code q) work p (root (getD work q 0))
       measured = ⊎-elim (λ z. inl z) (λ z. inr (z .1)) (s .1)
+
       later : BodyAt ks ps y key → eqb k y ≡ false → BodyAt (k ∷ ks) (More p ps) y key
       later b t = record { body = b .body; found = rw t (b .found); low = b .low; high = b .high; safe = b .safe; stands = b .stands }
+
       go : (t : Bool) → eqb k y ≡ t → (keyPlace code (bodyEnd code q) (count ps) y ≡ some key → BodyAt ks ps y key) → cond t (some q) (keyPlace code (bodyEnd code q) (count ps) y) ≡ some key → BodyAt (k ∷ ks) (More p ps) y key
       go true t r e =
           let z : q ≡ key = cc in

@@ -6,3 +6,4 @@ pub mod Rooting
 pub mod Entries
 pub mod Freed
 pub mod Walking
+pub mod Calling

@@ -1,14 +1,13 @@
 -- The trees that stand in the code, from the last to the first, and each by its root.
-use mathlib.Core.Path.{_≡_, refl, sym, ap, ap₂, _∙_}
-use Prim.Native.Nat.{ℕ, zero, suc, _+_, _-_, _*_, _/_, _≤_, _<_}
+use mathlib.Core.Path.{_≡_, refl, sym, ap, _∙_}
+use Prim.Native.Nat.{ℕ, suc, _+_, _-_, _*_, _≤_, _<_}
 use native.Mathlib.Omega.{arith}
 use mathlib.Core.List.{List, [], _∷_, _++_, append-assoc, append-nil}
 use lib.ListN.{length, getD, drop}
 use Rattle.documents.specs.Terms.{Term, one, many}
-use Rattle.documents.specs.Tables.{nodes}
 use Rattle.trees.specs.Trees.{Tree, Cell, Block, Bound, Whole, Pushed, Leaf, More, count, inOrder, wordsOf}
 use Rattle.links.specs.Links.{beforeIn, overIn}
-use Rattle.links.specs.Standing.{entryPlace, entryAt, Safe, Spot, root, last, held, back, Stands}
+use Rattle.links.specs.Standing.{entryAt, Safe, root, last, back, Stands}
 use Rattle.writer.specs.Wanted.{Standing, TreesAt, TreeAt}
 use Rattle.writer.proofs.Writings.{Splits, Exactly}
 

@@ -1,12 +1,12 @@
 -- An entry written node by node, from its first node on, is what its PUSHI writes; and each of its nodes stands where the walk reads it.
 use mathlib.Core.Path.{_≡_, refl, sym, ap, ap₂, _∙_}
-use Prim.Native.Nat.{ℕ, zero, suc, _+_, _-_, _*_, _/_, _%_, _≤_, _<_, max}
+use Prim.Native.Nat.{ℕ, zero, suc, _+_, _-_, _*_, _≤_, _<_}
 use native.Mathlib.Omega.{arith}
 use mathlib.Core.Bool.{Bool, true, false, _&&_, cond}
-use mathlib.Core.Option.{Option, none, some}
-use mathlib.Core.List.{List, [], _∷_, _++_, append-assoc, append-nil}
-use lib.Dec.{T, leb, ltb}
-use lib.ListN.{length, getD, length-append}
+use mathlib.Core.Option.{Option, none}
+use mathlib.Core.List.{List, [], _∷_, _++_}
+use lib.Dec.{leb, ltb}
+use lib.ListN.{length, getD}
 use borrow.Author.Tests.{le-leb, lt-leb, ltb-true, ltb-false}
 use Rattle.documents.specs.Terms.{Sort, Tm, Var, Sym, Meta, Abst, Nil, Cons, len}
 use Rattle.documents.specs.Tables.{nodeWord, tableOf, Fits, nodes, depth}
@@ -14,7 +14,7 @@ use Rattle.documents.proofs.Lists.{on, T-of, of-and}
 use Rattle.trees.specs.Trees.{Writer, orMovedWords, spreadWords}
 use Rattle.survey.specs.Places.{place, placesOf}
 use Rattle.survey.proofs.Places.{length-places}
-use Rattle.links.specs.Nodewise.{isFree, total, insideOf, nodeWords}
+use Rattle.links.specs.Nodewise.{total, insideOf, nodeWords}
 use Rattle.links.proofs.Variables.{no-variable, variable-free}
 use Rattle.links.proofs.Gathered.{gathered}
 

@@ -1,6 +1,6 @@
 -- The walk that writes: what holds at each of its calls, and from turn to turn of its two loops.
 use mathlib.Core.Path.{_≡_, refl, sym, ap, _∙_}
-use Prim.Native.Nat.{ℕ, zero, suc, _+_, _-_, _*_, _^_, _/_, _≤_, _<_}
+use Prim.Native.Nat.{ℕ, suc, _+_, _-_, _*_, _^_, _/_, _≤_, _<_}
 use native.Mathlib.Omega.{arith}
 use native.Mathlib.Decide.{ℕ-discrete}
 use mathlib.Core.Bool.{true, false}
@@ -10,14 +10,14 @@ use lib.Seq.{take-take, take-set-le, getD-set-same, getD-set-other}
 use Rattle.documents.specs.Tables.{nodes}
 use Rattle.links.specs.Links.{beforeIn, overIn}
 use Rattle.links.specs.Nodewise.{isFree, insideOf}
-use Rattle.links.specs.Standing.{entryPlace, entryAt, Scene}
+use Rattle.links.specs.Standing.{entryPlace, entryAt}
 use Rattle.writer.specs.Written.{Wrote, Writes, Room, nstack}
 use Rattle.writer.specs.Wanted.{Ready, TreesAt, TreeAt, FreeAt, Met}
 use Rattle.writer.proofs.Writings.{wrote-none, Splits, Exactly, writes-from, room-from, writes-then, room-last, room-rest, writes-below, writes-exactly}
 use Rattle.writer.proofs.Opened.{opened-same, nstack-same, nstack-open, nstack-at}
 use Rattle.writer.proofs.Spreading.{Below}
 use Rattle.writer.proofs.Rooting.{At, tree-root, trees-none, trees-split, cell-split, block-split, tree-bound, bound-words}
-use Rattle.writer.proofs.Entries.{NamedAt, PartAt, NodeAt, tree-named, tree-part, part-none, part-split, part-met, node-within, place-below, node-free, node-kept}
+use Rattle.writer.proofs.Entries.{PartAt, NodeAt, tree-named, tree-part, part-none, part-split, part-met, node-within, place-below, node-free, node-kept}
 
 -- ---- A measure by two numbers, shut so that `omega` takes it as an unknown
 

@@ -1,6 +1,5 @@
 // Writes a result that was measured, from its last node to its first.
 use documents::op::CELL;
-use documents::op::ADBMAL;
 use documents::op::PUSHIMM;
 use documents::op::PUSHVAR;
 use links::LEVEL;
@@ -52,9 +51,34 @@ pub fn write(
         at = before(link);
         left -= 1;
         if code[here] < PUSHVAR {
-            to = write_node(code, subject, entries, work, result, opened, here, over(link), to, offset, l, words);
+            to = write_node(
+                code,
+                subject,
+                entries,
+                work,
+                result,
+                opened,
+                here,
+                over(link),
+                to,
+                offset,
+                l,
+                words,
+            );
         } else {
-            to = write_leaf(code, subject, entries, work, result, opened, here, to, offset, l, words);
+            to = write_leaf(
+                code,
+                subject,
+                entries,
+                work,
+                result,
+                opened,
+                here,
+                to,
+                offset,
+                l,
+                words,
+            );
         }
     }
     to
@@ -80,11 +104,37 @@ fn write_node(
 {
     if code[at] == CELL {
         let count = code[at + 2];
-        let to = write(code, subject, entries, work, result, opened, last, count, end, offset, l, words);
+        let to = write(
+            code,
+            subject,
+            entries,
+            work,
+            result,
+            opened,
+            last,
+            count,
+            end,
+            offset,
+            l,
+            words,
+        );
         return put(result, to, FIRST_SYMBOL + code[at + 1], count);
     }
     opened[l] = offset;
-    let to = write(code, subject, entries, work, result, opened, last, 1, end, offset, l + 1, words);
+    let to = write(
+        code,
+        subject,
+        entries,
+        work,
+        result,
+        opened,
+        last,
+        1,
+        end,
+        offset,
+        l + 1,
+        words,
+    );
     put(result, to, ABSTRACTION, 1)
 }
 
@@ -124,7 +174,21 @@ fn write_leaf(
     if moves_nothing(code, at, offset) {
         return copy(&subject[first..last], result, end);
     }
-    write_entry(code, subject, entries, work, result, opened, at, first, last, end, offset, l, words)
+    write_entry(
+        code,
+        subject,
+        entries,
+        work,
+        result,
+        opened,
+        at,
+        first,
+        last,
+        end,
+        offset,
+        l,
+        words,
+    )
 }
 
 // A PUSHIMM, or a PUSHI without bodies under which no index changes.
@@ -181,7 +245,21 @@ fn write_entry(
         let word = subject[at];
         let inside = (work[NODES_AT + at / 2] - root) % LEVEL;
         if is_free(word, inside) {
-            to = write_free(code, subject, entries, work, result, opened, push, word, inside, to, offset, l, words);
+            to = write_free(
+                code,
+                subject,
+                entries,
+                work,
+                result,
+                opened,
+                push,
+                word,
+                inside,
+                to,
+                offset,
+                l,
+                words,
+            );
         } else {
             to = put(result, to, word, subject[at + 1]);
         }
@@ -212,5 +290,18 @@ fn write_free(
         return put(result, end, moved(word, code[push + 2] + offset), 0);
     };
     let body = code[key + 1] as usize;
-    write(code, subject, entries, work, result, opened, work[key] as usize, 1, end, offset + inside, l, body)
+    write(
+        code,
+        subject,
+        entries,
+        work,
+        result,
+        opened,
+        work[key] as usize,
+        1,
+        end,
+        offset + inside,
+        l,
+        body,
+    )
 }
