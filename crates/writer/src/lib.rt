@@ -24,7 +24,7 @@ ghost use Rattle.writer.specs.Written.{Wrote, Writes, Room, nstack};
 ghost use Rattle.writer.specs.Wanted.{Ready, movesNothing, TreesAt, TreeAt, FreeAt, Met};
 
 // So many trees, the root of the last given, before a place of the result. Answers where they begin. OFFSET is `offset`, l LAMBDAs are open,
-// `opened` holds OFFSET at each.
+// `opened` holds OFFSET at each. The trees stand in at most `words` words of the code, fewer in a body than around it: so the walk ends.
 pub fn write(
     code: &[u32],
     subject: &[u32],
@@ -138,6 +138,7 @@ fn write_node(
     put(result, to, ABSTRACTION, 1)
 }
 
+// A node's two words.
 fn put(result: &mut [u32], end: usize, word: u32, count: u32) -> usize
     requires { ⌜ (2 ≤ end) × (end ≤ length (now result)) ⌝ }
     ensures { λ r. ⌜ Wrote (now (result .entry)) (now (result .exit)) r end (word ∷ count ∷ []) ⌝ }
@@ -205,6 +206,7 @@ fn moves_nothing(code: &[u32], at: usize, offset: u32) -> bool
     code[at + 2] + offset == D_SHIFT
 }
 
+// Words as they are.
 fn copy(part: &[u32], result: &mut [u32], end: usize) -> usize
     requires { ⌜ (length (now part) ≤ end) × (end ≤ length (now result)) ⌝ }
     ensures { λ r. ⌜ Wrote (now (result .entry)) (now (result .exit)) r end (now (part .entry)) ⌝ }
