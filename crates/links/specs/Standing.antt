@@ -90,19 +90,26 @@ module _ (code subject entries places : List ℕ) (lo hi : ℕ) (work : List ℕ
     pub high : bodyEnd code q ≤ hi
     pub key : getD code q 0 ≡ k
 
-  abbrev pub Stands : {s : Sort} → Tree s → Spot s → Type 0
-  Stands (Cell s ps) (root z) =
-      Rooted z opCELL (Cell s ps) × (getD code (z + 1) 0 ≡ s) × (getD code (z + 2) 0 ≡ count ps) × Stands ps (last (overIn (getD work z 0)))
-  Stands (Block p) (root z) = Rooted z opADBMAL (Block p) × Stands p (root (overIn (getD work z 0)))
-  Stands (Bound x) (root z) = Rooted z opPUSHVAR (Bound x) × (getD code (z + 1) 0 ≡ x)
-  Stands (Whole e) (root z) = Rooted z opPUSHIMM (Whole e) × Named z e
-  Stands (Pushed e D ks ps) (root z) =
-      Rooted z opPUSHI (Pushed e D ks ps) × Named z e × Behind z D (count ps) × Seen z e (count ps) × Stands ps (held ks (z + 4))
-  Stands Leaf (last z) = Unit {0}
-  Stands (More p ps) (last z) = Stands ps (last z) × Stands p (root (back work (count ps) z))
-  Stands Leaf (held ks q) = Unit {0}
-  Stands (More p ps) (held [] q) = ⊥
-  Stands (More p ps) (held (k ∷ ks) q) =
-      Body q k
-      × ((getD work q 0 ≡ 0) ⊎ ((getD work (q + 1) 0 ≡ noteOf (nodesOf (entryAt subject entries) p) (reachOf (entryAt subject entries) p)) × Stands p (root (getD work q 0))))
-      × Stands ps (held ks (bodyEnd code q))
+-- The tree of a body stands among the body's own words.
+abbrev pub Stands : (code subject entries places : List ℕ) (lo hi : ℕ) (work : List ℕ) {s : Sort} → Tree s → Spot s → Type 0
+Stands code subject entries places lo hi work (Cell s ps) (root z) =
+    Rooted code subject entries places lo hi work z opCELL (Cell s ps) × (getD code (z + 1) 0 ≡ s) × (getD code (z + 2) 0 ≡ count ps)
+    × Stands code subject entries places lo hi work ps (last (overIn (getD work z 0)))
+Stands code subject entries places lo hi work (Block p) (root z) =
+    Rooted code subject entries places lo hi work z opADBMAL (Block p) × Stands code subject entries places lo hi work p (root (overIn (getD work z 0)))
+Stands code subject entries places lo hi work (Bound x) (root z) = Rooted code subject entries places lo hi work z opPUSHVAR (Bound x) × (getD code (z + 1) 0 ≡ x)
+Stands code subject entries places lo hi work (Whole e) (root z) =
+    Rooted code subject entries places lo hi work z opPUSHIMM (Whole e) × Named code subject entries places lo hi work z e
+Stands code subject entries places lo hi work (Pushed e D ks ps) (root z) =
+    Rooted code subject entries places lo hi work z opPUSHI (Pushed e D ks ps) × Named code subject entries places lo hi work z e
+    × Behind code subject entries places lo hi work z D (count ps) × Seen code subject entries places lo hi work z e (count ps)
+    × Stands code subject entries places lo hi work ps (held ks (z + 4))
+Stands code subject entries places lo hi work Leaf (last z) = Unit {0}
+Stands code subject entries places lo hi work (More p ps) (last z) =
+    Stands code subject entries places lo hi work ps (last z) × Stands code subject entries places lo hi work p (root (back work (count ps) z))
+Stands code subject entries places lo hi work Leaf (held ks q) = Unit {0}
+Stands code subject entries places lo hi work (More p ps) (held [] q) = ⊥
+Stands code subject entries places lo hi work (More p ps) (held (k ∷ ks) q) =
+    Body code subject entries places lo hi work q k
+    × ((getD work q 0 ≡ 0) ⊎ ((getD work (q + 1) 0 ≡ noteOf (nodesOf (entryAt subject entries) p) (reachOf (entryAt subject entries) p)) × Stands code subject entries places (q + 2) (bodyEnd code q) work p (root (getD work q 0))))
+    × Stands code subject entries places lo hi work ps (held ks (bodyEnd code q))

@@ -1,0 +1,67 @@
+-- What the walk that writes a result is asked to write: the words of trees that stand in the code with their links.
+use mathlib.Core.Path.{_≡_}
+use Prim.Native.Nat.{ℕ, _+_, _-_, _*_, _≤_, _<_}
+use mathlib.Core.Bool.{Bool, true, _&&_, cond}
+use mathlib.Core.List.{List}
+use lib.Dec.{eqb}
+use lib.ListN.{length, getD, drop}
+use Rattle.documents.specs.Lists.{assoc, pairlists}
+use Rattle.documents.specs.Terms.{Sort, one, many}
+use Rattle.documents.specs.Instructions.{opPUSHIMM}
+use Rattle.trees.specs.Trees.{Tree, Pushed, count, orMovedWords, inOrder, wordsOf}
+use Rattle.links.specs.Bodies.{keyPlace}
+use Rattle.links.specs.Nodewise.{isFree, seenAt}
+use Rattle.links.specs.Standing.{entryAt, Scene, Safe, Spot, root, last, Stands}
+
+-- The setting of the walk: OFFSET and `opened`, that holds OFFSET at each of l open LAMBDAs. A body's words are fewer than those around it, and it stands
+-- under fewer than 64 abstractions of its entry, so OFFSET stays small.
+pub record Ready (code subject entries work result opened : List ℕ) (end offset l words : ℕ) : Type 0 where
+  pub scene : Scene code subject entries work
+  pub inside : end ≤ length result
+  pub lambdas : l ≤ 63
+  pub long : length opened ≡ 64
+  pub low : (i : ℕ) → i < l → getD opened i 0 ≤ offset
+  pub small : offset + 64 * words ≤ 1048576
+
+-- A PUSHIMM, or a PUSHI without bodies under which no index changes.
+unfoldable pub movesNothing : List ℕ → ℕ → ℕ → Bool
+movesNothing code at offset = cond (eqb (getD code at 0) opPUSHIMM) true (eqb (getD code (at + 3) 0) 0 && eqb (getD code (at + 2) 0 + offset) 64)
+
+module _ (code subject entries work : List ℕ) (words l : ℕ) where
+  -- a tree, or trees, that stand in so many words of the code
+  pub record Standing {s : Sort} (p : Tree s) (x : Spot s) : Type 0 where
+    pub lo : ℕ
+    pub hi : ℕ
+    pub stands : Stands code subject entries (drop 4096 work) lo hi work p x
+    pub safe : Safe l p
+    pub short : hi ≤ length code
+    pub few : hi ≤ lo + words
+
+  module _ (offset : ℕ) (nst : List ℕ) where
+    -- the words of n trees, the root of the last given
+    pub record TreesAt (n z : ℕ) (ws : List ℕ) : Type 0 where
+      pub trees : Tree many
+      pub counted : count trees ≡ n
+      pub standing : Standing trees (last z)
+      pub these : ws ≡ inOrder (wordsOf (entryAt subject entries) trees) offset nst
+
+    -- of the tree whose root stands there
+    pub record TreeAt (z : ℕ) (ws : List ℕ) : Type 0 where
+      pub tree : Tree one
+      pub standing : Standing tree (root z)
+      pub these : ws ≡ wordsOf (entryAt subject entries) tree offset nst
+
+    -- of a variable x, free under n abstractions of the entry of a PUSHI
+    pub record FreeAt (z x n : ℕ) (ws : List ℕ) : Type 0 where
+      pub e : ℕ
+      pub D : ℕ
+      pub ks : List ℕ
+      pub bodies : Tree many
+      pub standing : Standing (Pushed e D ks bodies) (root z)
+      pub these : ws ≡ orMovedWords (assoc (pairlists ks (wordsOf (entryAt subject entries) bodies)) (x - n)) D n x offset nst
+
+-- a variable of an entry met by the walk: it is free there, and its body, if it has one, was measured
+pub record Met (code work : List ℕ) (z x n : ℕ) : Type 0 where
+  pub free : isFree x n ≡ true
+  pub shallow : n < 64
+  pub seen : seenAt work (keyPlace code (z + 4) (getD code (z + 3) 0) (x - n)) ≡ true
