@@ -1,0 +1,11 @@
+pub mod Linking
+pub mod Standing
+pub mod Kept
+pub mod Stacking
+pub mod Growing
+pub mod Memos
+pub mod Meeting
+pub mod Spreading
+pub mod Pushing
+pub mod Answering
+pub mod Walked
