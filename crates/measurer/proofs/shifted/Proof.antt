@@ -8,17 +8,5 @@ use Rattle.measurer.proofs.shifted.Tie as tie
 use Rattle.measurer.proofs.shifted.Reads as reads
 use Rattle.measurer.proofs.shifted.Lts as lts
 
--- src/lib.rt:116:9
-returns : tie.Need-returns
-returns c = search needs
-
--- src/lib.rt:118:5
-add-result : tie.Need-add-result
-add-result c = search needs
-
--- src/lib.rt:111:1
-returns-2 : tie.Need-returns-2
-returns-2 c = further-some _ _ (c .if1 .left)
-
 pub shifted-spec : {M : Type 1} → statement M
-shifted-spec = tie.close (tie.spec returns add-result returns-2)
+shifted-spec = tie.close (tie.spec (λ c. search needs) (λ c. search needs) (λ c. further-some _ _ (c .if1 .left)))
