@@ -1,69 +1,97 @@
 #!/usr/bin/env bash
-# run.sh: the tables of docs/BENCHMARKS.md. A call's instructions are (those of 11 calls - those of 1) / 10; then the bytes of stack that a call
-# writes to. Needs target/staticlib/libreedbiscuit.a (rt staticlib reedbiscuit) and on x86-64 valgrind. The library is x86-64 code: on another
-# machine the kit's emulator counts its instructions, and what only x86-64 can tell is left open (-).
+# run.sh [CALL...]: the tables of docs/BENCHMARKS.md, of these calls or of all. A call's instructions are (those of 11 calls - those of 1) / 10;
+# then the bytes of stack that a call writes to. Needs target/staticlib/libreedbiscuit.a (rt staticlib reedbiscuit) and on x86-64 valgrind. The
+# library is x86-64 code: on another machine the kit's emulator counts its instructions, and those of the second implementation, made x86-64
+# code too (second_in_c/).
 set -euo pipefail
 cd "$(dirname "$0")"
 
 cargo build --offline --release --quiet -j1
 bench=target/release/reed-bench
-log=$(mktemp)
-trap 'rm -f "$log"' EXIT
-if [ "$(uname -m)" = x86_64 ]; then native=yes; else native=no; fi
+scratch=$(mktemp -d)
+trap 'rm -rf "$scratch"' EXIT
+# A line for each instruction goes through it, and is kept nowhere.
+log=$scratch/log
+mkfifo "$log"
+if [ "$(uname -m)" = x86_64 ]; then
+    native=yes
+else
+    native=no
+    mkdir "$scratch/second"
+    sh second_in_c/build.sh "$scratch/second" >&2
+fi
+
+# bench CALL SIDE CASE WHAT: on another machine than x86-64 either side is in a host program
+bench() {
+    if [ $native = no ] && [ "$2" = second ]; then
+        REED_OTHER_HOST=$scratch/second/host "$bench" "$1" reedbiscuit "$3" "$4"
+    else
+        "$bench" "$@"
+    fi
+}
 
 # instructions CALL SIDE CASE TIMES: of the whole program
 instructions() {
     if [ $native = yes ]; then
         valgrind --tool=callgrind --callgrind-out-file=/dev/null "$bench" "$@" 2>&1 | awk '/Collected :/ { print $4; found = 1 } END { exit !found }'
     else
-        QEMU_ONE_INSN_PER_TB=1 QEMU_LOG=exec,nochain QEMU_LOG_FILENAME=$log "$bench" "$@"
-        grep -c '^Trace' "$log"
+        grep -c '^Trace' <"$log" >"$scratch/count" &
+        # If the program fails before the emulator has opened the log, nobody else lets go of who reads it.
+        QEMU_ONE_INSN_PER_TB=1 QEMU_LOG=exec,nochain QEMU_LOG_FILENAME=$log bench "$@" || { : <>"$log"; return 1; }
+        wait $!
+        cat "$scratch/count"
     fi
 }
 
 # a_call CALL SIDE CASE
 a_call() {
     local eleven one
-    if [ $native = no ] && [ "$2" = second ]; then echo -; return; fi
     eleven=$(instructions "$@" 11)
     one=$(instructions "$@" 1)
     echo $(((eleven - one) / 10))
 }
 
-# a_word INSTRUCTIONS WORDS
-a_word() {
-    if [ "$1" = - ] || [ "$2" = 0 ]; then echo -; else awk -v all="$1" -v words="$2" 'BEGIN { printf "%.2f\n", all / words }'; fi
+# each INSTRUCTIONS SIZE: of a word or node
+each() {
+    if [ "$2" = 0 ]; then echo -; else awk -v all="$1" -v size="$2" 'BEGIN { printf "%.2f\n", all / size }'; fi
 }
 
-# stack CALL SIDE CASE
-stack() {
-    if [ $native = no ] && [ "$2" = second ]; then echo -; else "$bench" "$@" stack; fi
-}
-
-# tables CALL NOUN CASE...: both tables of a call; NOUN is what a case is
+# tables CALL NOUN UNIT CASE...: both tables of a call; NOUN is what a case is, UNIT what its size is counted in
 tables() {
-    local call=$1 noun=$2 case words proved second
-    shift 2
-    echo "| $noun | words | \`reed_$call\` | a word | \`second::$call\` | a word |"
+    local call=$1 noun=$2 unit=$3 case size proved second
+    shift 3
+    echo "| $noun | ${unit}s | \`reed_$call\` | a $unit | \`second::$call\` | a $unit |"
     echo '|---|--:|--:|--:|--:|--:|'
     for case in "$@"; do
-        words=$("$bench" "$call" second "$case" words)
+        size=$("$bench" "$call" second "$case" size)
         proved=$(a_call "$call" reedbiscuit "$case")
         second=$(a_call "$call" second "$case")
-        echo "| $case | $words | $proved | $(a_word "$proved" "$words") | $second | $(a_word "$second" "$words") |"
+        echo "| $case | $size | $proved | $(each "$proved" "$size") | $second | $(each "$second" "$size") |"
     done
     echo
     echo "| $noun | stack of \`reed_$call\`, bytes | of \`second::$call\` |"
     echo '|---|--:|--:|'
     for case in "$@"; do
-        echo "| $case | $(stack "$call" reedbiscuit "$case") | $(stack "$call" second "$case") |"
+        echo "| $case | $(bench "$call" reedbiscuit "$case" stack) | $(bench "$call" second "$case" stack) |"
     done
 }
 
-tables read file smallest three beta odd largest refused
-echo
-tables compile rule small beta wide deep checks repeated most growing-32 growing-64 growing-128 growing-256 \
-    refused-8 refused-9-28 refused-9-56 refused-9-112 refused-9 refused-9-one refused-10
-echo
-tables check code beta most nested-bodies nested-blocks nested-both \
-    {match,checks,eqi,eqi-pairs,eqi-guard,cells,blocks,pushi-body,pushi-guard}-{256,1024,4096} refused-last refused-long
+# The calls that were asked for, or all.
+wanted=${*:-read compile check watch}
+wants() { [[ " $wanted " == *" $1 "* ]]; }
+
+if wants read; then tables read file word smallest three beta odd largest refused; echo; fi
+if wants compile; then
+    tables compile rule word small beta wide deep checks repeated most growing-32 growing-64 growing-128 growing-256 \
+        refused-8 refused-9-28 refused-9-56 refused-9-112 refused-9 refused-9-one refused-10
+    echo
+fi
+if wants check; then
+    tables check code word beta most nested-bodies nested-blocks nested-both \
+        {match,checks,eqi,eqi-pairs,eqi-guard,cells,blocks,pushi-body,pushi-guard}-{256,1024,4096} refused-last refused-long
+    echo
+fi
+if wants watch; then
+    tables watch plan node small beta beta-{64,512,4096} most compare-{64,512,4096} forbid-{64,512,4096} comb-4096 abstractions bodies \
+        refused-11 refused-2 refused-1 refused-3 refused-4 refused-12-first refused-12-last refused-13-bodies
+fi

@@ -135,6 +135,39 @@ struct reed_answer reed_compile(const uint32_t *left, size_t left_length, const 
  */
 uint32_t reed_check(const uint32_t *code, size_t code_length);
 
+/*
+ * Subjects.
+ *
+ * A subject is a good table of at most REED_SUBJECT_NODES nodes, none deeper than REED_DEPTH, without metavariables. It may have free
+ * variables. Its nodes are numbered from 0 in prefix order.
+ */
+enum {
+    REED_SUBJECT_NODES = 4096, /* the most nodes of a subject */
+    REED_SUBJECT_WORDS = 8192  /* the same in words */
+};
+
+/* REED_DONE and where the code stands after so many instructions, or a refusal and four times 0. */
+struct reed_watch_answer {
+    uint32_t number;
+    uint32_t current;  /* current terms */
+    uint32_t entries;  /* entries that were made */
+    uint32_t finished; /* finished terms, those outside an open block too */
+    uint32_t node;     /* the node of the current term in the subject; the subject's node count if there is none */
+};
+
+/*
+ * Executes the first i outermost instructions of code on a subject, all of them if there are fewer, and tells where it stands then; writes
+ * nothing. A PUSHI is one instruction, with all its bodies; a LAMBDA, its block's instructions and the ADBMAL are one each.
+ *
+ * Refusals; where several are due, it is the first of these:
+ *
+ * REED_CODE_DOES_NOT_PASS: as reed_check says.
+ * REED_TOO_MANY_WORDS, REED_TABLE_NOT_GOOD, REED_TOO_DEEP, REED_METAVARIABLE_IN_SUBJECT: the subject has more than REED_SUBJECT_WORDS words,
+ * whatever they are; it is no good table; it has a node deeper than REED_DEPTH; it has a metavariable.
+ * REED_MATCH_FAILS: the test of one of the first i instructions says no.
+ */
+struct reed_watch_answer reed_watch(const uint32_t *code, size_t code_length, const uint32_t *subject, size_t subject_length, uint32_t i);
+
 #ifdef __cplusplus
 }
 #endif

@@ -21,7 +21,7 @@ impl Case for LentCode {
         LentCode { code: code_named(name), number }
     }
 
-    fn words(&self) -> usize {
+    fn size(&self) -> usize {
         self.code.len()
     }
 

@@ -28,7 +28,7 @@ impl Case for LentRule {
         LentRule { rule, code: vec![0; words - 1], number, words: 0 }
     }
 
-    fn words(&self) -> usize {
+    fn size(&self) -> usize {
         self.words
     }
 

@@ -2,17 +2,20 @@
 //! instructions.
 //! `reed-bench CALL SIDE CASE stack`: makes it once and prints how many bytes of stack that took; on
 //! another machine than x86-64 not for `second`.
-//! `reed-bench CALL SIDE CASE words`: prints by how many words the instructions are to be divided.
+//! `reed-bench CALL SIDE CASE size`: prints by how many words or nodes the instructions are to be
+//! divided.
 //!
-//! CALL is `read`, `compile` or `check`, SIDE is `reedbiscuit` or `second`; `read.rs`, `compile.rs`
-//! and `check.rs` know the cases. run.sh makes tables of it all.
+//! CALL is `read`, `compile`, `check` or `watch`, SIDE is `reedbiscuit` or `second`; each call's
+//! module knows its cases, `plans.rs` those of watch. run.sh makes tables of it all.
 
 mod check;
 mod compile;
+mod plans;
 mod proved;
 mod read;
 #[cfg(target_arch = "x86_64")]
 mod stack;
+mod watch;
 
 #[derive(Clone, Copy)]
 enum Side {
@@ -24,8 +27,8 @@ enum Side {
 trait Case {
     fn named(name: &str) -> Self;
 
-    /// The words that it is about.
-    fn words(&self) -> usize;
+    /// The words or nodes that it is about.
+    fn size(&self) -> usize;
 
     /// Makes the call. The same code is round both sides', so that it costs both the same.
     fn make(&mut self, side: Side);
@@ -34,13 +37,14 @@ trait Case {
 fn main() {
     let words: Vec<String> = std::env::args().skip(1).collect();
     let [call, side, case, what] = &words[..] else {
-        panic!("usage: reed-bench CALL SIDE CASE TIMES|stack|words")
+        panic!("usage: reed-bench CALL SIDE CASE TIMES|stack|size")
     };
     let side = side_of(side);
     match call.as_str() {
         "read" => measure(read::File::named(case), side, what),
         "compile" => measure(compile::LentRule::named(case), side, what),
         "check" => measure(check::LentCode::named(case), side, what),
+        "watch" => measure(watch::Watched::named(case), side, what),
         _ => panic!("no such call: {call}"),
     }
 }
@@ -55,7 +59,7 @@ fn side_of(name: &str) -> Side {
 
 fn measure(mut case: impl Case, side: Side, what: &str) {
     match what {
-        "words" => println!("{}", case.words()),
+        "size" => println!("{}", case.size()),
         #[cfg(not(target_arch = "x86_64"))]
         "stack" => println!("{}", proved::stack(|| case.make(side)) - proved::stack(|| ())),
         #[cfg(target_arch = "x86_64")]

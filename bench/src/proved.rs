@@ -2,10 +2,10 @@
 //! lets the emulator count.
 
 #[cfg(target_arch = "x86_64")]
-pub use linked::engine::linked::{check, compile, read};
+pub use linked::engine::linked::{check, compile, read, watch};
 
 #[cfg(not(target_arch = "x86_64"))]
-pub use hosted::{check, compile, read, stack};
+pub use hosted::{check, compile, read, stack, watch};
 
 #[cfg(not(target_arch = "x86_64"))]
 mod hosted {
@@ -17,8 +17,9 @@ mod hosted {
     use linked::engine::Engine;
     use linked::guarded::Area;
     use linked::read::Read;
+    use linked::watch::Watch;
     use second::seed::{Rng, Rule};
-    use second::{Answer, ReadAnswer};
+    use second::{Answer, ReadAnswer, WatchAnswer};
 
     thread_local! {
         static ENGINE: RefCell<Engine> = RefCell::new(Engine::start().expect("a host program"));
@@ -43,6 +44,12 @@ mod hosted {
 
     pub fn check(code: &[u32]) -> u32 {
         made(Check::new(&mut Rng::new(0), code))[0]
+    }
+
+    pub fn watch(code: &[u32], subject: &[u32], i: u32) -> WatchAnswer {
+        let [number, current, entries, finished, node] =
+            made(Watch::new(&mut Rng::new(0), code, subject, i));
+        WatchAnswer { number, current, entries, finished, node }
     }
 
     /// The bytes of the host's stack that a call writes to.

@@ -31,7 +31,7 @@ impl Case for File {
         File { file, number, tables: Tables::largest() }
     }
 
-    fn words(&self) -> usize {
+    fn size(&self) -> usize {
         let without_words = file_of(&[], &[], &[]).len();
         (self.file.len() - without_words).div_ceil(FILE_WORD_BYTES)
     }

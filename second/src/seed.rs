@@ -21,5 +21,5 @@ pub use files::{damaged_file, edge_file, file_of};
 pub use results::{result_at_limit, ResultCase, RESULT_CASES};
 pub use rng::Rng;
 pub use rules::{break_rule, edge_rule, good_rule, Rule, BREAKS, EDGE_RULES};
-pub use subjects::{matching_subject, nearly, random_subject};
+pub use subjects::{matching_subject, nearly, random_subject, random_term};
 pub use term::{Term, SIDE_LEAVES};

@@ -2,13 +2,16 @@
 use Prim.Native.Nat.{ℕ}
 use mathlib.Core.List.{List}
 use Rattle.documents.specs.Numbers.{numberOf}
-use Rattle.documents.specs.Calls.{ReadAnswer, CompileAnswer}
+use Rattle.documents.specs.Calls.{ReadAnswer, CompileAnswer, WatchAnswer}
 use Rattle.reader.specs.declared.Answer.{Answer}
 use Rattle.reader.specs.declared.Answer.the-variants as read
 use Rattle.compiler.specs.declared.Compiled.{Compiled}
 use Rattle.compiler.specs.declared.Compiled.the-variants as compiled
+use Rattle.watcher.specs.declared.Watched.{Watched}
+use Rattle.watcher.specs.declared.Watched.the-variants as watched
 use Rattle.reedbiscuit.specs.declared.ReedReadAnswer.{ReedReadAnswer}
 use Rattle.reedbiscuit.specs.declared.ReedAnswer.{ReedAnswer}
+use Rattle.reedbiscuit.specs.declared.ReedWatchAnswer.{ReedWatchAnswer}
 
 -- 01's number of the reader's answer
 abbrev pub readNumber : Answer → ℕ
@@ -28,3 +31,12 @@ compileNumber (compiled.Refused w) = numberOf w
 -- the numbers of a struct, and the lent code table afterwards
 abbrev pub compileGiven : ReedAnswer → List ℕ → CompileAnswer
 compileGiven a code = record { number = a .number; words = a .words; code = code }
+
+-- 01's number of watch's answer
+abbrev pub watchNumber : Watched → ℕ
+watchNumber (watched.Counts c e f n) = 0
+watchNumber (watched.Refused w) = numberOf w
+
+-- the numbers of a struct
+abbrev pub watchGiven : ReedWatchAnswer → WatchAnswer
+watchGiven a = record { number = a .number; current = a .current; entries = a .entries; finished = a .finished; node = a .node }

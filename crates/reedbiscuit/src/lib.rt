@@ -2,9 +2,10 @@
 use checker::Checked;
 use compiler::Compiled;
 use reader::Answer;
+use watcher::Watched;
 ghost use mathlib.Core.Path.{_≡_};
-ghost use Rattle.documents.specs.Calls.{readCall, compileCall, checkCall};
-ghost use Rattle.reedbiscuit.specs.Answers.{readNumber, readGiven, compileNumber, compileGiven};
+ghost use Rattle.documents.specs.Calls.{readCall, compileCall, checkCall, watchCall};
+ghost use Rattle.reedbiscuit.specs.Answers.{readNumber, readGiven, compileNumber, compileGiven, watchNumber, watchGiven};
 
 // 01's number where nothing is refused.
 const DONE: u32 = 0;
@@ -23,6 +24,16 @@ pub struct ReedReadAnswer {
 pub struct ReedAnswer {
     pub number: u32,
     pub words: u32,
+}
+
+// The C header calls it reed_watch_answer.
+#[repr(C)]
+pub struct ReedWatchAnswer {
+    pub number: u32,
+    pub current: u32,
+    pub entries: u32,
+    pub finished: u32,
+    pub node: u32,
 }
 
 // Document 01's reader: the words of a file's three tables at the front of the lent ones.
@@ -99,4 +110,38 @@ pub extern "C" fn reed_check(code: &[u32]) -> u32
         return DONE;
     };
     documents::number(refusal)
+}
+
+// Document 01's watch: the machine's counts after the first i outermost instructions.
+#[no_mangle]
+pub extern "C" fn reed_watch(code: &[u32], subject: &[u32], i: u32) -> ReedWatchAnswer
+    ensures { λ r. ⌜ watchGiven r ≡ watchCall (now (code .entry)) (now (subject .entry)) i ⌝ }
+{
+    let answer = watcher::watch(code, subject, i);
+    let Watched::Counts(current, entries, finished, node) = answer else {
+        return ReedWatchAnswer {
+            number: watch_number(answer),
+            current: 0,
+            entries: 0,
+            finished: 0,
+            node: 0,
+        };
+    };
+    ReedWatchAnswer {
+        number: DONE,
+        current,
+        entries,
+        finished,
+        node,
+    }
+}
+
+// 01's number of watch's answer.
+fn watch_number(answer: Watched) -> u32
+    ensures { λ r. ⌜ r ≡ watchNumber answer ⌝ }
+{
+    let Watched::Refused(why) = answer else {
+        return DONE;
+    };
+    documents::number(why)
 }

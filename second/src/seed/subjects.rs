@@ -53,7 +53,7 @@ fn instance(term: &Term, above: u32, valuation: &BTreeMap<(u32, usize), Term>) -
 }
 
 /// A term without metavariables; variables below `bound` come often, others too.
-pub(super) fn random_term(rng: &mut Rng, bound: u32, room: &mut usize, depth: usize) -> Term {
+pub fn random_term(rng: &mut Rng, bound: u32, room: &mut usize, depth: usize) -> Term {
     *room = room.saturating_sub(1);
     let goes_on = *room > 0 && depth > 0;
     match rng.below(9) {

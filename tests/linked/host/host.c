@@ -15,7 +15,7 @@ enum { STANDARD_INPUT, STANDARD_OUTPUT };
 enum { ALL_MADE, CUT_SHORT, TOO_LONG, NO_SUCH_CALL };
 enum { ANSWER_WORDS = 5, AREAS = 4, BATCH_WORDS = 1 << 22 };
 
-enum call { CALL_STACK, CALL_READ, CALL_COMPILE, CALL_CHECK };
+enum call { CALL_STACK, CALL_READ, CALL_COMPILE, CALL_CHECK, CALL_WATCH };
 
 /* Of the stack that calls are made on; and what stands there until it is written to. */
 enum { STACK_BYTES = 1 << 17, PAINT = 0xA5 };
@@ -38,13 +38,13 @@ struct frame {
 static uint32_t batch[BATCH_WORDS];
 
 /* Sets all words of an answer; counts that a call does not have are 0. */
-static void answer(struct frame *frame, uint32_t number, uint32_t first, uint32_t second, uint32_t third)
+static void answer(struct frame *frame, uint32_t number, uint32_t first, uint32_t second, uint32_t third, uint32_t fourth)
 {
     frame->answer[0] = number;
     frame->answer[1] = first;
     frame->answer[2] = second;
     frame->answer[3] = third;
-    frame->answer[4] = 0;
+    frame->answer[4] = fourth;
 }
 
 static void make_read(struct frame *frame, uint32_t *memory[AREAS])
@@ -53,7 +53,7 @@ static void make_read(struct frame *frame, uint32_t *memory[AREAS])
     struct reed_read_answer read =
         reed_read((const uint8_t *)memory[0] + file->before, file->length, memory[1] + left->before, left->length,
                   memory[2] + right->before, right->length, memory[3] + subject->before, subject->length);
-    answer(frame, read.number, read.left, read.right, read.subject);
+    answer(frame, read.number, read.left, read.right, read.subject, 0);
 }
 
 static void make_compile(struct frame *frame, uint32_t *memory[AREAS])
@@ -61,13 +61,21 @@ static void make_compile(struct frame *frame, uint32_t *memory[AREAS])
     const struct area *left = &frame->areas[0], *right = &frame->areas[1], *code = &frame->areas[2];
     struct reed_answer compiled = reed_compile(memory[0] + left->before, left->length, memory[1] + right->before, right->length,
                                                memory[2] + code->before, code->length);
-    answer(frame, compiled.number, compiled.words, 0, 0);
+    answer(frame, compiled.number, compiled.words, 0, 0, 0);
 }
 
 static void make_check(struct frame *frame, uint32_t *memory[AREAS])
 {
     const struct area *code = &frame->areas[0];
-    answer(frame, reed_check(memory[0] + code->before, code->length), 0, 0, 0);
+    answer(frame, reed_check(memory[0] + code->before, code->length), 0, 0, 0, 0);
+}
+
+static void make_watch(struct frame *frame, uint32_t *memory[AREAS])
+{
+    const struct area *code = &frame->areas[0], *subject = &frame->areas[1];
+    struct reed_watch_answer watch =
+        reed_watch(memory[0] + code->before, code->length, memory[1] + subject->before, subject->length, frame->argument);
+    answer(frame, watch.number, watch.current, watch.entries, watch.finished, watch.node);
 }
 
 /*
@@ -93,7 +101,7 @@ static uint32_t *make(struct frame *frame)
     }
     switch (frame->call) {
     case CALL_STACK:
-        answer(frame, 0, stack(frame->argument), 0, 0);
+        answer(frame, 0, stack(frame->argument), 0, 0, 0);
         return next;
     case CALL_READ:
         make_read(frame, memory);
@@ -103,6 +111,9 @@ static uint32_t *make(struct frame *frame)
         return next;
     case CALL_CHECK:
         make_check(frame, memory);
+        return next;
+    case CALL_WATCH:
+        make_watch(frame, memory);
         return next;
     default:
         return 0;

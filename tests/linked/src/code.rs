@@ -70,3 +70,35 @@ pub fn nested(levels: &[Level], inside: &[u32]) -> Vec<u32> {
 pub fn in_blocks(times: usize, inside: &[u32]) -> Vec<u32> {
     nested(&vec![Level::Block; times], inside)
 }
+
+/// The words of the match instruction that this code begins with.
+pub fn words_of_match(code: &[u32]) -> usize {
+    match code[0] {
+        IS => 3,
+        CHECK => 2 + code[1] as usize,
+        EQVAR | EQIMM => 2,
+        EQI => 4 + 2 * code[3] as usize,
+        _ => 1,
+    }
+}
+
+/// How many outermost instructions code that passes has.
+pub fn instructions(code: &[u32]) -> usize {
+    let (mut at, mut count) = (0, 0);
+    while at < code.len() {
+        at += match code[at] {
+            CELL => 3,
+            PUSHVAR | PUSHIMM => 2,
+            LAMBDA | ADBMAL => 1,
+            PUSHI => words_of_pushi(&code[at..]),
+            _ => words_of_match(&code[at..]),
+        };
+        count += 1;
+    }
+    count
+}
+
+fn words_of_pushi(code: &[u32]) -> usize {
+    // Each body has its key and its count of words before it.
+    (0..code[3]).fold(4, |words, _| words + 2 + code[words + 1] as usize)
+}

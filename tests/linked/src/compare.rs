@@ -14,6 +14,8 @@ pub struct Kind<C> {
     name: &'static str,
     /// The numbers that the documents give to such calls: each must come, and no other.
     numbers: &'static [u32],
+    /// But for these, which may come.
+    rare: &'static [u32],
     /// How many seeds.
     seeds: u64,
     /// The calls of a seed.
@@ -27,7 +29,12 @@ impl<C> Kind<C> {
         seeds: u64,
         calls: fn(&mut Rng) -> Vec<C>,
     ) -> Kind<C> {
-        Kind { name, numbers, seeds, calls }
+        Kind { name, numbers, rare: &[], seeds, calls }
+    }
+
+    /// The same where these numbers, too seldom to be counted on, may come too.
+    pub const fn or_rarely(self, rare: &'static [u32]) -> Kind<C> {
+        Kind { rare, ..self }
     }
 }
 
@@ -56,7 +63,8 @@ pub fn compare<C: Call>(kinds: &[Kind<C>]) -> Tally {
     let mut tally = Tally { engine: engine.name(), kinds: Vec::new() };
     for kind in kinds {
         let numbers = compare_kind(&mut engine, kind);
-        let came: Vec<u32> = numbers.keys().copied().collect();
+        let often = |number: &u32| kind.numbers.contains(number) || !kind.rare.contains(number);
+        let came: Vec<u32> = numbers.keys().copied().filter(often).collect();
         assert_eq!(came, kind.numbers, "'{}': numbers that came and should come", kind.name);
         tally.kinds.push((kind.name, numbers));
     }

@@ -17,10 +17,11 @@ pub enum Engine {
 }
 
 impl Engine {
-    /// The engine that build.rs has chosen.
+    /// The engine that build.rs has chosen, unless REED_OTHER_HOST names another host program.
     pub fn start() -> io::Result<Engine> {
-        match option_env!("REED_HOST") {
-            Some(program) => Ok(Engine::Host(Host::start(program)?)),
+        let built = option_env!("REED_HOST").map(String::from);
+        match std::env::var("REED_OTHER_HOST").ok().or(built) {
+            Some(program) => Ok(Engine::Host(Host::start(&program)?)),
             #[cfg(target_arch = "x86_64")]
             None => Ok(Engine::Linked),
             #[cfg(not(target_arch = "x86_64"))]

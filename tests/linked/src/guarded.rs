@@ -8,7 +8,8 @@ use second::seed::Rng;
 pub trait Unit: Copy + Eq + Debug {
     const BYTES: usize;
     fn noise(rng: &mut Rng) -> Self;
-    fn put(self, bytes: &mut Vec<u8>);
+    /// To `BYTES` bytes.
+    fn put(self, bytes: &mut [u8]);
     /// From `BYTES` bytes.
     fn of_bytes(bytes: &[u8]) -> Self;
 }
@@ -20,8 +21,8 @@ impl Unit for u8 {
         rng.bits() as u8
     }
 
-    fn put(self, bytes: &mut Vec<u8>) {
-        bytes.push(self);
+    fn put(self, bytes: &mut [u8]) {
+        bytes[0] = self;
     }
 
     fn of_bytes(bytes: &[u8]) -> u8 {
@@ -36,12 +37,12 @@ impl Unit for u32 {
         rng.bits() as u32
     }
 
-    fn put(self, bytes: &mut Vec<u8>) {
-        bytes.extend(self.to_le_bytes());
+    fn put(self, bytes: &mut [u8]) {
+        bytes.copy_from_slice(&self.to_le_bytes());
     }
 
     fn of_bytes(bytes: &[u8]) -> u32 {
-        u32::from_le_bytes([bytes[0], bytes[1], bytes[2], bytes[3]])
+        u32::from_le_bytes(bytes.try_into().expect("four bytes"))
     }
 }
 
@@ -119,7 +120,11 @@ impl<T: Unit> Area for Guarded<T> {
     }
 
     fn put(&self, bytes: &mut Vec<u8>) {
-        self.memory.iter().for_each(|unit| unit.put(bytes));
+        let start = bytes.len();
+        bytes.resize(start + self.bytes(), 0);
+        for (unit, bytes) in self.memory.iter().zip(bytes[start..].chunks_exact_mut(T::BYTES)) {
+            unit.put(bytes);
+        }
     }
 
     fn set(&mut self, bytes: &[u8]) {

@@ -16,3 +16,4 @@ pub mod engine;
 pub mod guarded;
 pub mod numbers;
 pub mod read;
+pub mod watch;

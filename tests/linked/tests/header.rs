@@ -36,6 +36,8 @@ fn the_limits_are_those_of_the_second_implementation() {
         ("REED_SIDE_WORDS", NODE_WORDS * SIDE_NODES),
         ("REED_METAVARIABLES", METAVARIABLES),
         ("REED_CODE_WORDS", CODE_WORDS),
+        ("REED_SUBJECT_NODES", SUBJECT_NODES),
+        ("REED_SUBJECT_WORDS", NODE_WORDS * SUBJECT_NODES),
     ];
     assert_eq!(constants()[18..], limits);
 }

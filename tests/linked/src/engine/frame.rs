@@ -16,7 +16,7 @@ const MEMORY_FROM: usize = (2 + ANSWER_WORDS + 3 * AREAS) * WORD;
 /// Appends a call's frame.
 pub fn put<C: Call>(call: &mut C, bytes: &mut Vec<u8>) {
     let head = [C::NUMBER, call.argument()].into_iter().chain(UNANSWERED);
-    head.for_each(|word| word.put(bytes));
+    head.for_each(|word| put_word(word, bytes));
     let areas = call.areas();
     assert!(areas.len() <= AREAS);
     let mut shapes = [[0; 3]; AREAS];
@@ -24,7 +24,7 @@ pub fn put<C: Call>(call: &mut C, bytes: &mut Vec<u8>) {
         let [before, length] = area.shape();
         *shape = [words(&**area) as u32, before as u32, length as u32];
     }
-    shapes.into_iter().flatten().for_each(|word| word.put(bytes));
+    shapes.into_iter().flatten().for_each(|word| put_word(word, bytes));
     for area in areas {
         let end = bytes.len() + words(area) * WORD;
         area.put(bytes);
@@ -45,6 +45,11 @@ pub fn take(call: &mut impl Call, bytes: &mut &[u8]) -> Answer {
         *bytes = after;
     }
     answer
+}
+
+/// Appends a word.
+pub fn put_word(word: u32, bytes: &mut Vec<u8>) {
+    bytes.extend(word.to_le_bytes());
 }
 
 /// Words that an area's memory takes in a frame.

@@ -50,7 +50,7 @@ impl Host {
     /// Sends a batch and waits for it to come back.
     fn exchange(&mut self, batch: &mut [u8]) -> io::Result<()> {
         let mut length = Vec::new();
-        ((batch.len() / u32::BYTES) as u32).put(&mut length);
+        frame::put_word((batch.len() / u32::BYTES) as u32, &mut length);
         let input = self.input.as_mut().ok_or_else(|| io::Error::other("the host was ended"))?;
         input.write_all(&length)?;
         input.write_all(batch)?;

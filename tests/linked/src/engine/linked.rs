@@ -1,7 +1,7 @@
 //! The library linked into this process: include/reedbiscuit.h, call by call, over slices.
 #![allow(unsafe_code)]
 
-use second::{Answer, ReadAnswer};
+use second::{Answer, ReadAnswer, WatchAnswer};
 
 #[repr(C)]
 struct ReedReadAnswer {
@@ -15,6 +15,15 @@ struct ReedReadAnswer {
 struct ReedAnswer {
     number: u32,
     words: u32,
+}
+
+#[repr(C)]
+struct ReedWatchAnswer {
+    number: u32,
+    current: u32,
+    entries: u32,
+    finished: u32,
+    node: u32,
 }
 
 extern "C" {
@@ -39,6 +48,14 @@ extern "C" {
     ) -> ReedAnswer;
 
     fn reed_check(code: *const u32, code_length: usize) -> u32;
+
+    fn reed_watch(
+        code: *const u32,
+        code_length: usize,
+        subject: *const u32,
+        subject_length: usize,
+        i: u32,
+    ) -> ReedWatchAnswer;
 }
 
 #[inline]
@@ -80,4 +97,13 @@ pub fn compile(left: &[u32], right: &[u32], code: &mut [u32]) -> Answer {
 pub fn check(code: &[u32]) -> u32 {
     // Sound: as for `read`.
     unsafe { reed_check(code.as_ptr(), code.len()) }
+}
+
+#[inline]
+pub fn watch(code: &[u32], subject: &[u32], i: u32) -> WatchAnswer {
+    // Sound: as for `read`.
+    let answer =
+        unsafe { reed_watch(code.as_ptr(), code.len(), subject.as_ptr(), subject.len(), i) };
+    let ReedWatchAnswer { number, current, entries, finished, node } = answer;
+    WatchAnswer { number, current, entries, finished, node }
 }

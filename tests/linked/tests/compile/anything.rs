@@ -7,7 +7,7 @@ use second::seed::{Rng, Rule, Term};
 use crate::accepted::{name, small};
 use crate::lent::words_of;
 use crate::limits;
-use crate::refused::{ABSTRACTION, METAVARIABLE, SYMBOL};
+use crate::spoilt::{ABSTRACTION, METAVARIABLE, SYMBOL};
 
 /// Nodes or words changed in rules that are close to the limits.
 pub fn damaged(rng: &mut Rng) -> Vec<Compile> {

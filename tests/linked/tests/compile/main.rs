@@ -8,6 +8,7 @@ mod lent;
 mod limits;
 mod order;
 mod refused;
+mod spoilt;
 
 use linked::compare::{compare, Kind};
 use linked::compile::Compile;

@@ -6,7 +6,8 @@ use second::seed::{Rng, Rule, Term};
 
 use crate::accepted::{name, small};
 use crate::lent::at_any_length;
-use crate::refused::{bad_arguments, of_metavariables, spoil};
+use crate::refused::{bad_arguments, of_metavariables};
+use crate::spoilt::spoil;
 
 /// What a refusal is due for.
 #[derive(Clone, Copy, PartialEq)]

@@ -8,12 +8,7 @@ use crate::accepted::{
     applied, name, nested_bodies, repeated, small, with_metavariables, Metavariable,
 };
 use crate::lent::at_any_length;
-
-/// The first words of each kind, and of none.
-pub const SYMBOL: u32 = 1 << 16;
-pub const METAVARIABLE: u32 = 2 << 16;
-pub const ABSTRACTION: u32 = 3 << 16;
-const NO_NODE: u32 = 4 << 16;
+use crate::spoilt;
 
 /// A rule with another left side in one call, with another right side in the other.
 fn on_either_side(rng: &mut Rng, change: fn(&mut Rng, &mut Vec<u32>)) -> Vec<Compile> {
@@ -36,57 +31,18 @@ pub fn every_cut(rng: &mut Rng) -> Vec<Compile> {
 }
 
 pub fn words_after(rng: &mut Rng) -> Vec<Compile> {
-    on_either_side(rng, |rng, side| match rng.below(3) {
-        0 => side.push(rng.below(3) as u32),
-        1 => side.extend(Term::leaf(3).words()),
-        _ => side.extend(small(rng).right),
+    on_either_side(rng, |rng, side| {
+        let another = small(rng).right;
+        spoilt::words_after(rng, side, another);
     })
 }
 
-/// One node is none, though it has as many arguments as before.
 pub fn no_such_node(rng: &mut Rng) -> Vec<Compile> {
-    on_either_side(rng, |rng, side| {
-        let node = NODE_WORDS * rng.below(side.len() / NODE_WORDS);
-        side[node] = no_first_word(rng, side[node + 1]);
-    })
+    on_either_side(rng, |rng, side| spoilt::no_such_node(rng, side))
 }
 
-/// A first word that no node with so many arguments has.
-fn no_first_word(rng: &mut Rng, count: u32) -> u32 {
-    let high = NO_NODE << rng.below(14);
-    let of_no_kind = *rng.pick(&[NO_NODE, high, high + SYMBOL, u32::MAX]);
-    let variable = name(rng);
-    let of_a_kind = match count {
-        0 => ABSTRACTION,
-        1 => *rng.pick(&[variable, ABSTRACTION + 1, ABSTRACTION + INDEX]),
-        _ => *rng.pick(&[variable, ABSTRACTION]),
-    };
-    *rng.pick(&[of_no_kind, of_a_kind])
-}
-
-/// A node with a count that is wrong by one, or far too high: one that would be right if only its
-/// low bits were looked at, too.
 pub fn another_count(rng: &mut Rng) -> Vec<Compile> {
-    on_either_side(rng, |rng, side| {
-        let nodes = side.len() / NODE_WORDS;
-        let count = &mut side[NODE_WORDS * rng.below(nodes) + 1];
-        let high = *count + (1 << rng.between(8, 31));
-        let off = rng.between(1, 9) as u32;
-        *count = *rng.pick(&[*count + 1, count.wrapping_sub(1), *count + off, high, u32::MAX]);
-    })
-}
-
-/// Changes a table so that it is not good, however long or deep it is.
-pub fn spoil(rng: &mut Rng, side: &mut Vec<u32>) {
-    let node = NODE_WORDS * rng.below(side.len() / NODE_WORDS);
-    match rng.below(6) {
-        0 => side.push(0),
-        1 => side.extend(Term::leaf(1).words()),
-        2 => side.truncate(side.len() - 1),
-        3 => side.truncate(side.len() - NODE_WORDS),
-        4 => side[node] = no_first_word(rng, side[node + 1]),
-        _ => side[node + 1] = u32::MAX,
-    }
+    on_either_side(rng, |rng, side| spoilt::another_count(rng, side))
 }
 
 // 2: more words than its node limit allows.
