@@ -99,8 +99,7 @@ module _ {code subject entries work₀ : List ℕ} {from end most : ℕ} (sq : S
           let i = sq .inside in
           let c = g .scene .code-short in
           let w = g .scene .work-long in
-          let r = g .root-low in
-          (
+          let r = g .root-low in (
             omega arith,
             (λ a b. let e = eight l n9 a b in let k = follows-within (g .follows) lo i 2 (ap fixedAfter e) in omega arith),
             omega arith,

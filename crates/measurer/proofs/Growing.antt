@@ -242,9 +242,10 @@ module _ (code subject entries work₀ : List ℕ) (from end most : ℕ) where
               let ef′ = rw q at ef in
               let lq = ap length q in
               grow ADBMAL (at + 1) (length (g .st)) (n + 1) (Block p) st (linked v) far nx (ap (λ (x : List (Tree one)). grown ADBMAL x) q) (sym lq)
-              (kept-set work at v (omega arith) (omega arith) short) (omega arith)
-              (rooted 10 (at + 1) z d v w (Block p) ev lw lz (omega arith) e (one-deeper _ _ dp),
-                rw (over-is v w z d ev lw lz) (restands v (at + 1) (omega arith) p (root z) (s′ .0)))
+              (kept-set work at v (omega arith) (omega arith) short) (omega arith) (
+                rooted 10 (at + 1) z d v w (Block p) ev lw lz (omega arith) e (one-deeper _ _ dp),
+                rw (over-is v w z d ev lw lz) (restands v (at + 1) (omega arith) p (root z) (s′ .0)),
+              )
               (rw (before-is v w z d ev lw) (restack v (at + 1) (omega arith) st w (s′ .1)))
               (omega arith) (omega arith) ef′ (let c = g .close in let l = g .low in omega arith)
 
@@ -265,9 +266,12 @@ module _ (code subject entries work₀ : List ℕ) (from end most : ℕ) where
           let ll = left-length k (g .st) in
           let ck : count ps ≡ k = taken-count k Leaf (g .st) (nx .0) ∙ plus-zero k in
           grow (CELL s k) (at + 3) (length (g .st) - k + 1) (n + 1) (Cell s ps) (left k (g .st)) (linked v) far (nx .1) refl (omega arith)
-          (kept-set work at v (omega arith) (omega arith) short) (omega arith)
-          (rooted 8 (at + 3) z d v w (Cell s ps) ev lw lz (omega arith) e (one-deeper _ _ dd), refl, sym ck,
-            rw (over-is v w z d ev lw lz) (restands v (at + 3) (omega arith) ps (last z) (t .args)))
+          (kept-set work at v (omega arith) (omega arith) short) (omega arith) (
+            rooted 8 (at + 3) z d v w (Cell s ps) ev lw lz (omega arith) e (one-deeper _ _ dd),
+            refl,
+            sym ck,
+            rw (over-is v w z d ev lw lz) (restands v (at + 3) (omega arith) ps (last z) (t .args)),
+          )
           (rw (before-is v w z d ev lw) (restack v (at + 3) (omega arith) (left k (g .st)) w (t .rest)))
           (let cs = cell-sizes ent s k (g .st) in let en = g .size in omega arith) (omega arith) (g .reach ∙ sym (cell-reaches ent s k (g .st)))
           (let c = g .close in let l = g .low in omega arith)
@@ -409,7 +413,7 @@ module _ (code subject entries work₀ : List ℕ) (from end most : ℕ) where
                 named₁ (w .named),
                 record { shift = refl; low = low; keys = sym ec },
                 seen₁ (getD code (at + 1) 0) ps ks (w .bodies) (rw ec (w .seen)),
-                bodies₁ ps ks (at + 4) (w .bodies)
+                bodies₁ ps ks (at + 4) (w .bodies),
               )
 
       module _ (pu : Pushable) {work₁ : List ℕ} (k₁ : Kept (at + 1) (placeNext code at) work work₁) where
@@ -457,12 +461,12 @@ module _ (code subject entries work₀ : List ℕ) (from end most : ℕ) where
           go x e =
               cases x (let b = build-op in omega arith) (omega arith) (λ q. ne (e ∙ q))
               (λ q. let nx = cell-next (g .follows) lo inside (e ∙ q) in let ll = left-length (getD code (at + 2) 0) (g .st) in
-                more _ _ (cell-sizes ent (getD code (at + 1) 0) (getD code (at + 2) 0) (g .st))
-                (at-least (CELL (getD code (at + 1) 0) (getD code (at + 2) 0)) _ _ _ (nx .1) refl (omega arith)))
+              more _ _ (cell-sizes ent (getD code (at + 1) 0) (getD code (at + 2) 0) (g .st))
+              (at-least (CELL (getD code (at + 1) 0) (getD code (at + 2) 0)) _ _ _ (nx .1) refl (omega arith)))
               (λ q. let nx = adbmal-next (g .follows) lo inside (e ∙ q) in
-                more _ _ (blocked-sizes ent (g .st) (nx .0)) (at-least ADBMAL _ _ _ (nx .1) refl (blocked-length (g .st))))
+              more _ _ (blocked-sizes ent (g .st) (nx .0)) (at-least ADBMAL _ _ _ (nx .1) refl (blocked-length (g .st))))
               (λ q. let nx = pushvar-next (g .follows) lo inside (e ∙ q) in
-                more _ _ (one-more _) (at-least (PUSHVAR (getD code (at + 1) 0)) _ _ (Bound (getD code (at + 1) 0) ∷ g .st) nx refl (omega arith)))
+              more _ _ (one-more _) (at-least (PUSHVAR (getD code (at + 1) 0)) _ _ (Bound (getD code (at + 1) 0) ∷ g .st) nx refl (omega arith)))
             where
               one-more : (k : ℕ) → 1 + k ≡ suc k
               one-more k = omega arith

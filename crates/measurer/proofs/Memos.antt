@@ -88,8 +88,7 @@ module _ (code subject entries : List ℕ) where
   memos-forgotten work q zero room r short = tt
   memos-forgotten work q (suc c) room r short =
       let k = forgotten-kept (set work q 0) (bodyEnd code q) c (r .1) short in
-      let e = length-set work q 0 in
-      (
+      let e = length-set work q 0 in (
         inl (k .low q (omega arith) ∙ set-here work q 0 (let h = r .0 in omega arith)),
         memos-forgotten (set work q 0) (bodyEnd code q) c (omega arith) (r .1) short,
       )
@@ -104,8 +103,7 @@ module _ (code subject entries : List ℕ) where
   unfolding keysAt treesAt placeBehind
   memos-stand work lo hi q zero l h m = tt
   memos-stand work lo hi q (suc c) l h m =
-      let b = behind-low code (bodyEnd code q) c in
-      (
+      let b = behind-low code (bodyEnd code q) c in (
         record { low = l; high = omega arith; key = refl },
         as-noted (m .0),
         memos-stand work lo hi (bodyEnd code q) c (omega arith) h (m .1),

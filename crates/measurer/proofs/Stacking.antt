@@ -87,8 +87,7 @@ module _ (code subject entries places : List ℕ) where
       → (st : List (Tree one)) (z : ℕ) → Stack lo hi work st z → Stack lo′ hi′ work′ st z
   stack-kept work work′ lo hi lo′ hi′ a l h [] z s = tt
   stack-kept work work′ lo hi lo′ hi′ a l h (p ∷ st) z s =
-      let i = root-in code subject entries places work work′ lo hi lo′ hi′ a l h p z (s .0) in
-      (
+      let i = root-in code subject entries places work work′ lo hi lo′ hi′ a l h p z (s .0) in (
         stands-kept code subject entries places work work′ lo hi lo′ hi′ a l h p (root z) (s .0),
         rw (a z (i .0) (i .1)) (stack-kept work work′ lo hi lo′ hi′ a l h st (beforeIn (getD work z 0)) (s .1)),
       )

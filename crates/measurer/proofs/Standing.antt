@@ -121,31 +121,28 @@ stands-kept code subject entries places work work′ lo hi lo′ hi′ agree wid
     (rooted-kept code subject entries places work work′ lo hi lo′ hi′ agree wide far (h .0), h .1)
 stands-kept code subject entries places work work′ lo hi lo′ hi′ agree wide far (Whole e) (root z) h =
     (rooted-kept code subject entries places work work′ lo hi lo′ hi′ agree wide far (h .0), named-kept code subject entries places work work′ lo hi lo′ hi′ agree wide far (h .0) (let k = h .0 .high in omega arith) (h .1))
-stands-kept code subject entries places work work′ lo hi lo′ hi′ agree wide far (Pushed e D ks ps) (root z) h =
-    (
-      rooted-kept code subject entries places work work′ lo hi lo′ hi′ agree wide far (h .0),
-      named-kept code subject entries places work work′ lo hi lo′ hi′ agree wide far (h .0) (let k = h .0 .high in omega arith) (h .1),
-      (let b = h .2 in record { shift = b .shift; low = b .low; keys = b .keys }),
-      seen-all-kept code subject entries places work work′ lo hi lo′ hi′ agree wide far e z ps ks (h .4) (h .3),
-      stands-kept code subject entries places work work′ lo hi lo′ hi′ agree wide far ps (held ks (z + 4)) (h .4),
-    )
+stands-kept code subject entries places work work′ lo hi lo′ hi′ agree wide far (Pushed e D ks ps) (root z) h = (
+  rooted-kept code subject entries places work work′ lo hi lo′ hi′ agree wide far (h .0),
+  named-kept code subject entries places work work′ lo hi lo′ hi′ agree wide far (h .0) (let k = h .0 .high in omega arith) (h .1),
+  (let b = h .2 in record { shift = b .shift; low = b .low; keys = b .keys }),
+  seen-all-kept code subject entries places work work′ lo hi lo′ hi′ agree wide far e z ps ks (h .4) (h .3),
+  stands-kept code subject entries places work work′ lo hi lo′ hi′ agree wide far ps (held ks (z + 4)) (h .4),
+)
 stands-kept code subject entries places work work′ lo hi lo′ hi′ agree wide far Leaf (last z) h = tt
-stands-kept code subject entries places work work′ lo hi lo′ hi′ agree wide far (More p ps) (last z) h =
-    (
-      stands-kept code subject entries places work work′ lo hi lo′ hi′ agree wide far ps (last z) (h .0),
-      rw (back-kept code subject entries places work work′ lo hi lo′ hi′ agree wide far (count ps) z (roots-in code subject entries places work work′ lo hi lo′ hi′ agree wide far ps z (h .0)))
+stands-kept code subject entries places work work′ lo hi lo′ hi′ agree wide far (More p ps) (last z) h = (
+  stands-kept code subject entries places work work′ lo hi lo′ hi′ agree wide far ps (last z) (h .0),
+  rw (back-kept code subject entries places work work′ lo hi lo′ hi′ agree wide far (count ps) z (roots-in code subject entries places work work′ lo hi lo′ hi′ agree wide far ps z (h .0)))
       (stands-kept code subject entries places work work′ lo hi lo′ hi′ agree wide far p (root (back work (count ps) z)) (h .1)),
-    )
+)
 stands-kept code subject entries places work work′ lo hi lo′ hi′ agree wide far Leaf (held ks q) h = tt
 stands-kept code subject entries places work work′ lo hi lo′ hi′ agree wide far (More p ps) (held [] q) h = absurd h
 stands-kept code subject entries places work work′ lo hi lo′ hi′ agree wide far (More p ps) (held (k ∷ ks) q) h =
     let b = h .0 in
     let l = b .low in
-    let j = b .high in
-    (
+    let j = b .high in (
       record { low = omega arith; high = omega arith; key = b .key },
       memo-kept code subject entries places work work′ p q (agree q (omega arith) (omega arith)) (agree (q + 1) (omega arith) (omega arith))
-      (stands-kept code subject entries places work work′ (q + 2) (bodyEnd code q) (q + 2) (bodyEnd code q) (λ i a b. agree i (omega arith) (omega arith)) (omega arith) (omega arith) p (root (getD work q 0)))
-      (h .1),
+          (stands-kept code subject entries places work work′ (q + 2) (bodyEnd code q) (q + 2) (bodyEnd code q) (λ i a b. agree i (omega arith) (omega arith)) (omega arith) (omega arith) p (root (getD work q 0)))
+          (h .1),
       stands-kept code subject entries places work work′ lo hi lo′ hi′ agree wide far ps (held ks (bodyEnd code q)) (h .2),
     )

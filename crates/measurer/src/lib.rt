@@ -178,7 +178,16 @@ fn push(
     let first = entries[entries.len() - 1 - code[at + 1] as usize] as usize;
     if code[at] == PUSHIMM {
         let Span::Of(nodes, deep, _) = spread(
-            code, at, 0, D_SHIFT, &subject[first..], NODES_AT + first / 2, subject, entries, work, most,
+            code,
+            at,
+            0,
+            D_SHIFT,
+            &subject[first..],
+            NODES_AT + first / 2,
+            subject,
+            entries,
+            work,
+            most,
         ) else {
             return Span::TooLarge;
         };
@@ -187,7 +196,16 @@ fn push(
     let count = code[at + 3];
     forget(code, at + 4, count, work);
     spread(
-        code, at, count, code[at + 2], &subject[first..], NODES_AT + first / 2, subject, entries, work, most,
+        code,
+        at,
+        count,
+        code[at + 2],
+        &subject[first..],
+        NODES_AT + first / 2,
+        subject,
+        entries,
+        work,
+        most,
     )
 }
 
@@ -234,9 +252,18 @@ fn spread(
         at += 2;
         deepest = greater(deepest, here / LEVEL + 1);
         if is_free(word, here % LEVEL) {
-            let Span::Of(nodes, deep, far) =
-                free(code, push, count, shift, word, here % LEVEL, subject, entries, work, most)
-            else {
+            let Span::Of(nodes, deep, far) = free(
+                code,
+                push,
+                count,
+                shift,
+                word,
+                here % LEVEL,
+                subject,
+                entries,
+                work,
+                most,
+            ) else {
                 return Span::TooLarge;
             };
             more += nodes - 1;
@@ -273,8 +300,7 @@ fn free(
     if work[key] == 0 {
         let from = key + 2;
         let end = from + code[key + 1] as usize;
-        let Measured::Of(nodes, far, root) =
-            measure(code, from, end, subject, entries, work, most)
+        let Measured::Of(nodes, far, root) = measure(code, from, end, subject, entries, work, most)
         else {
             return Span::TooLarge;
         };
@@ -284,5 +310,9 @@ fn free(
     }
     let noted = work[key + 1];
     let root = work[key] as usize;
-    Span::Of(nodes(noted), depth(work[root]), shifted(reach(noted), inside))
+    Span::Of(
+        nodes(noted),
+        depth(work[root]),
+        shifted(reach(noted), inside),
+    )
 }
