@@ -77,7 +77,7 @@ tables() {
 }
 
 # The calls that were asked for, or all.
-wanted=${*:-read compile check watch}
+wanted=${*:-read compile check run watch}
 wants() { [[ " $wanted " == *" $1 "* ]]; }
 
 if wants read; then tables read file word smallest three beta odd largest refused; echo; fi
@@ -91,7 +91,15 @@ if wants check; then
         {match,checks,eqi,eqi-pairs,eqi-guard,cells,blocks,pushi-body,pushi-guard}-{256,1024,4096} refused-last refused-long
     echo
 fi
+plans=(small beta beta-{64,512,4096} most compare-{64,512,4096} forbid-{64,512,4096})
+if wants run; then
+    tables run plan node "${plans[@]}" same-{64,512,4096} copy-{32,256,2048} move-{64,512,4095} keyed-{64,512,4095} \
+        comb-512 comb-4096 deep abstractions bodies bodies-{symbols,abstractions,deep} blocks both doubled \
+        refused-16 refused-11 refused-2 refused-1 refused-3 refused-4 refused-12-first refused-12-last \
+        refused-13 refused-13-bodies refused-14 refused-14-bodies refused-15
+    echo
+fi
 if wants watch; then
-    tables watch plan node small beta beta-{64,512,4096} most compare-{64,512,4096} forbid-{64,512,4096} comb-4096 abstractions bodies \
-        refused-11 refused-2 refused-1 refused-3 refused-4 refused-12-first refused-12-last refused-13-bodies
+    tables watch plan node "${plans[@]}" comb-4096 abstractions bodies refused-11 refused-2 refused-1 refused-3 refused-4 refused-12-first refused-12-last \
+        refused-13-bodies
 fi

@@ -17,7 +17,8 @@ extern "C" {
 /*
  * Numbers given back.
  *
- * Where it is not REED_DONE, all else that the call gives is 0, and the tables that it was lent to write words to are as they were.
+ * Where it is not REED_DONE, all else that the call gives is 0, and the tables that it was lent to write words to are as they were. The one
+ * exception is reed_run's working table, which is all zeros after every run, refused or done.
  */
 enum reed_number {
     REED_DONE = 0,                              /* done */
@@ -143,8 +144,33 @@ uint32_t reed_check(const uint32_t *code, size_t code_length);
  */
 enum {
     REED_SUBJECT_NODES = 4096, /* the most nodes of a subject */
-    REED_SUBJECT_WORDS = 8192  /* the same in words */
+    REED_SUBJECT_WORDS = 8192, /* the same in words */
+    REED_RESULT_NODES = 4096,  /* the most nodes of a result */
+    REED_RESULT_WORDS = 8192,  /* the same in words: a longer result table gives no more room */
+    REED_INDEX = 65535,        /* the highest index of a variable */
+    REED_WORKING_WORDS = 8192  /* the fewest words of a working table */
 };
+
+/*
+ * Runs code, whoever wrote it, at the root of a subject: puts the term that it makes at the front of the result table and leaves the rest of
+ * that as it was. reed_check need not be asked before.
+ *
+ * The working table may hold anything before. After the call every word of it is 0, whatever number the call gives and however long or short
+ * the table is. Words beyond the first REED_WORKING_WORDS serve nothing and are zeroed too.
+ *
+ * A refusal leaves all of the result table as it was. Where several are due, it is the first of these:
+ *
+ * REED_WORKING_TABLE_SHORT: working_length is below REED_WORKING_WORDS.
+ * REED_CODE_DOES_NOT_PASS: as reed_check says.
+ * REED_TOO_MANY_WORDS, REED_TABLE_NOT_GOOD, REED_TOO_DEEP, REED_METAVARIABLE_IN_SUBJECT: the subject has more than REED_SUBJECT_WORDS words,
+ * whatever they are; it is no good table; it has a node deeper than REED_DEPTH; it has a metavariable.
+ * REED_MATCH_FAILS: the test of a match instruction says no; for compiled code, the rule's left side does not match the subject.
+ * REED_RESULT_TOO_LARGE: the result has more than REED_RESULT_NODES nodes, or more words than result_length.
+ * REED_RESULT_TOO_DEEP: it has a node deeper than REED_DEPTH.
+ * REED_RESULT_INDEX_TOO_HIGH: it has a variable with an index over REED_INDEX.
+ */
+struct reed_answer reed_run(const uint32_t *code, size_t code_length, const uint32_t *subject, size_t subject_length, uint32_t *working,
+                            size_t working_length, uint32_t *result, size_t result_length);
 
 /* REED_DONE and where the code stands after so many instructions, or a refusal and four times 0. */
 struct reed_watch_answer {
@@ -159,12 +185,8 @@ struct reed_watch_answer {
  * Executes the first i outermost instructions of code on a subject, all of them if there are fewer, and tells where it stands then; writes
  * nothing. A PUSHI is one instruction, with all its bodies; a LAMBDA, its block's instructions and the ADBMAL are one each.
  *
- * Refusals; where several are due, it is the first of these:
- *
- * REED_CODE_DOES_NOT_PASS: as reed_check says.
- * REED_TOO_MANY_WORDS, REED_TABLE_NOT_GOOD, REED_TOO_DEEP, REED_METAVARIABLE_IN_SUBJECT: the subject has more than REED_SUBJECT_WORDS words,
- * whatever they are; it is no good table; it has a node deeper than REED_DEPTH; it has a metavariable.
- * REED_MATCH_FAILS: the test of one of the first i instructions says no.
+ * Refusals, the first one that is due: REED_CODE_DOES_NOT_PASS; REED_TOO_MANY_WORDS, REED_TABLE_NOT_GOOD, REED_TOO_DEEP,
+ * REED_METAVARIABLE_IN_SUBJECT, as for reed_run; REED_MATCH_FAILS, if one of the first i instructions fails. There are no limits to a result.
  */
 struct reed_watch_answer reed_watch(const uint32_t *code, size_t code_length, const uint32_t *subject, size_t subject_length, uint32_t i);
 

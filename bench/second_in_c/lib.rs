@@ -77,6 +77,24 @@ pub unsafe extern "C" fn reed_check(code: *const u32, code_length: usize) -> u32
 /// # Safety
 /// As for `reed_read`.
 #[no_mangle]
+pub unsafe extern "C" fn reed_run(
+    code: *const u32,
+    code_length: usize,
+    subject: *const u32,
+    subject_length: usize,
+    working: *mut u32,
+    working_length: usize,
+    result: *mut u32,
+    result_length: usize,
+) -> ReedAnswer {
+    let (code, subject) = (part(code, code_length), part(subject, subject_length));
+    let (working, result) = (part_mut(working, working_length), part_mut(result, result_length));
+    second::run(code, subject, working, result).into()
+}
+
+/// # Safety
+/// As for `reed_read`.
+#[no_mangle]
 pub unsafe extern "C" fn reed_watch(
     code: *const u32,
     code_length: usize,

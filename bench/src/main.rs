@@ -5,14 +5,15 @@
 //! `reed-bench CALL SIDE CASE size`: prints by how many words or nodes the instructions are to be
 //! divided.
 //!
-//! CALL is `read`, `compile`, `check` or `watch`, SIDE is `reedbiscuit` or `second`; each call's
-//! module knows its cases, `plans.rs` those of watch. run.sh makes tables of it all.
+//! CALL is `read`, `compile`, `check`, `run` or `watch`, SIDE is `reedbiscuit` or `second`; each
+//! call's module knows its cases, `plans.rs` those of the last two. run.sh makes tables of it all.
 
 mod check;
 mod compile;
 mod plans;
 mod proved;
 mod read;
+mod run;
 #[cfg(target_arch = "x86_64")]
 mod stack;
 mod watch;
@@ -44,6 +45,7 @@ fn main() {
         "read" => measure(read::File::named(case), side, what),
         "compile" => measure(compile::LentRule::named(case), side, what),
         "check" => measure(check::LentCode::named(case), side, what),
+        "run" => measure(run::LentPlan::named(case), side, what),
         "watch" => measure(watch::Watched::named(case), side, what),
         _ => panic!("no such call: {call}"),
     }

@@ -1,17 +1,22 @@
-//! Code with a subject, for watch.
+//! Code with a subject, for the run and watch.
 
 use linked::code::*;
 use linked::numbers::*;
-use second::limits::{ARGUMENTS, DEPTH, NESTING, NODE_WORDS, SUBJECT_NODES};
+use second::limits::{
+    ARGUMENTS, BINDERS, DEPTH, INDEX, NESTING, NODE_WORDS, RESULT_NODES, SUBJECT_NODES,
+    WORKING_WORDS,
+};
 use second::seed::{Rule, Term};
 use Term::{Meta, Sym, Var};
 
 use crate::compile::{code_of, rule_of};
 
-/// All that watch is lent, and the number that it gives.
+/// All that a run is lent, and the number that it gives.
 pub struct Plan {
     pub code: Vec<u32>,
     pub subject: Vec<u32>,
+    pub working_words: usize,
+    pub result_words: usize,
     pub number: u32,
 }
 
@@ -21,7 +26,24 @@ impl Plan {
             Some((family, Ok(nodes))) if !name.starts_with("refused") => grown(family, nodes),
             _ => single(name),
         };
-        Plan { code, subject, number: number_of(name) }
+        let mut plan = Plan {
+            code,
+            subject,
+            working_words: WORKING_WORDS,
+            result_words: NODE_WORDS * RESULT_NODES,
+            number: number_of(name),
+        };
+        if plan.number == WORKING_TABLE_SHORT {
+            plan.working_words -= 1;
+        }
+        plan
+    }
+
+    /// The subject's nodes and the result's; those of a refused result are not counted.
+    pub fn nodes(&self) -> usize {
+        let (mut working, mut result) = (vec![0; self.working_words], vec![0; self.result_words]);
+        let answer = second::run(&self.code, &self.subject, &mut working, &mut result);
+        (self.subject.len() + answer.words as usize) / NODE_WORDS
     }
 }
 
@@ -71,6 +93,20 @@ fn grown(family: &str, nodes: usize) -> (Vec<u32>, Vec<u32>) {
             let subject = Sym(1, vec![Sym(2, vec![Term::abst(body)]), Var(7)]);
             (code_of(&rule_of("beta")), subject.words())
         }
+        // As it is.
+        "same" => (vec![SET, NEXT, PUSHIMM, 0], tree(nodes, &Var(9)).words()),
+        // Two copies, no index moved.
+        "copy" => {
+            let twice = Sym(3, vec![z(), z()]);
+            of_rule(&f(z()), &twice, &f(tree(nodes - 1, &Term::leaf(4))))
+        }
+        // Each variable moved by one.
+        "move" => of_rule(&f(z()), &Term::abst(z()), &f(tree(nodes - 1, &Var(9)))),
+        // Each variable replaced by what a body makes.
+        "keyed" => {
+            let right = Term::abst(Meta(7, vec![Var(0)]));
+            of_rule(&f(keyed()), &right, &f(Term::abst(tree(nodes - 2, &Var(0)))))
+        }
         // A third compared with each of the two others, renamed.
         "compare" => {
             let part = Term::abst(tree(nodes / 3 - 1, &Var(0)));
@@ -108,6 +144,11 @@ fn single(name: &str) -> (Vec<u32>, Vec<u32>) {
             let rule = rule_of("most");
             (code_of(&rule), without_metavariables(&rule.left))
         }
+        // As deep as a result may be.
+        "deep" => {
+            let chain = Term::chain(1, DEPTH - 3, Term::leaf(2));
+            of_rule(&f(z()), &f(f(z())), &f(chain))
+        }
         // Compared and moved under as many abstractions as can be.
         "abstractions" => {
             let left = Sym(1, vec![Term::abst(z()), Term::abst(z())]);
@@ -116,6 +157,16 @@ fn single(name: &str) -> (Vec<u32>, Vec<u32>) {
         }
         // Bodies in one another, as many as may be; each entry is its variable.
         "bodies" => in_bodies(NESTING, &Term::abst(Var(0))),
+        // The same where each entry adds a symbol, or an abstraction, down to depth 64.
+        "bodies-symbols" => in_bodies(NESTING - 1, &Term::abst(Sym(2, vec![Var(0)]))),
+        "bodies-abstractions" => in_bodies(NESTING - 1, &Term::abst(Term::abst(Var(1)))),
+        // Blocks around a body, and blocks and bodies in turn.
+        "blocks" => in_levels(&[&[Level::Block; BINDERS][..], &[Level::Body]].concat()),
+        "both" => in_levels(&[Level::Block, Level::Body].repeat(NESTING / 2)),
+        // The same where each entry has two variables, as far as the result has room.
+        "doubled" => in_bodies(11, &Term::abst(Sym(2, vec![Var(0), Var(0)]))),
+        // 64 levels of bodies, the innermost of which pushes an entry 60 deep.
+        "bodies-deep" => bodies_over_deep(),
         _ => refused(name),
     }
 }
@@ -126,10 +177,25 @@ fn in_bodies(levels: usize, subject: &Term) -> (Vec<u32>, Vec<u32>) {
     ([&[ISABST, SET, NEXT], &bodies[..]].concat(), subject.words())
 }
 
+/// A leaf in these levels, each entry its variable.
+fn in_levels(levels: &[Level]) -> (Vec<u32>, Vec<u32>) {
+    let building = nested(levels, &[CELL, 1, 0]);
+    ([&[ISABST, SET, NEXT], &building[..]].concat(), Term::abst(Var(0)).words())
+}
+
+fn bodies_over_deep() -> (Vec<u32>, Vec<u32>) {
+    let matching = [IS, 1, 2, SET, NEXT, ISABST, SET, NEXT];
+    let bodies = nested(&[Level::Body; NESTING], &pushi(1, difference(0, 0), &[]));
+    let deep = Term::chain(2, DEPTH - 4, Var(3));
+    let subject = Sym(1, vec![deep, Term::abst(Var(0))]);
+    ([&matching[..], &bodies].concat(), subject.words())
+}
+
 fn refused(name: &str) -> (Vec<u32>, Vec<u32>) {
     let largest = tree(SUBJECT_NODES, &Var(9)).words();
     let same = vec![SET, NEXT, PUSHIMM, 0];
     match name {
+        "refused-16" => (same, largest),
         "refused-11" => (vec![NEXT, CELL, 1], largest),
         "refused-2" => (same, [&largest[..], &[0]].concat()),
         "refused-1" => (same, largest[..largest.len() - NODE_WORDS].to_vec()),
@@ -148,8 +214,18 @@ fn refused(name: &str) -> (Vec<u32>, Vec<u32>) {
             let left = Sym(1, vec![z(), z()]);
             (code_of(&Rule::of(&left, &z())), subject)
         }
+        // One node too many, counted last.
+        "refused-13" => ([&same[..], &[CELL, 1, 1]].concat(), largest),
         // Two to the power of 64.
         "refused-13-bodies" => in_bodies(NESTING, &Term::abst(Sym(2, vec![Var(0), Var(0)]))),
+        "refused-14" => of_rule(&f(z()), &f(f(z())), &f(Term::chain(1, DEPTH - 2, Term::leaf(2)))),
+        "refused-14-bodies" => in_bodies(NESTING, &Term::abst(Term::chain(1, DEPTH - 2, Var(0)))),
+        "refused-15" => {
+            let mut subject = f(tree(SUBJECT_NODES - 2, &Var(9))).words();
+            let last = subject.len() - NODE_WORDS;
+            subject[last] = INDEX;
+            (code_of(&Rule::of(&f(z()), &Term::abst(z()))), subject)
+        }
         _ => panic!("no such plan: {name}"),
     }
 }

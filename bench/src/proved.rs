@@ -2,10 +2,10 @@
 //! lets the emulator count.
 
 #[cfg(target_arch = "x86_64")]
-pub use linked::engine::linked::{check, compile, read, watch};
+pub use linked::engine::linked::{check, compile, read, run, watch};
 
 #[cfg(not(target_arch = "x86_64"))]
-pub use hosted::{check, compile, read, stack, watch};
+pub use hosted::{check, compile, read, run, stack, watch};
 
 #[cfg(not(target_arch = "x86_64"))]
 mod hosted {
@@ -17,6 +17,7 @@ mod hosted {
     use linked::engine::Engine;
     use linked::guarded::Area;
     use linked::read::Read;
+    use linked::run::{Lent, Run};
     use linked::watch::Watch;
     use second::seed::{Rng, Rule};
     use second::{Answer, ReadAnswer, WatchAnswer};
@@ -44,6 +45,12 @@ mod hosted {
 
     pub fn check(code: &[u32]) -> u32 {
         made(Check::new(&mut Rng::new(0), code))[0]
+    }
+
+    pub fn run(code: &[u32], subject: &[u32], working: &mut [u32], result: &mut [u32]) -> Answer {
+        let lent = Lent { working: working.len(), result: result.len(), reach: 0 };
+        let [number, words, ..] = made(Run::new(&mut Rng::new(0), code, subject, lent));
+        Answer { number, words }
     }
 
     pub fn watch(code: &[u32], subject: &[u32], i: u32) -> WatchAnswer {

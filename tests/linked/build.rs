@@ -8,6 +8,8 @@ use std::process::{Command, ExitCode};
 /// Where `rt staticlib reedbiscuit` writes, seen from this package.
 const STATICLIB: &str = "../../target/staticlib";
 const ARCHIVE: &str = "libreedbiscuit.a";
+/// Links a C program with the library, for plan_apply too.
+const BUILD: &str = "../../program/build.sh";
 
 fn main() -> ExitCode {
     match prepare() {
@@ -55,11 +57,13 @@ fn through_host(links: bool) -> Result<bool, String> {
 
 /// Makes the host program; the package sees REED_HOST exactly if there is one.
 fn make_host(archive: &Path) -> Result<(), String> {
-    println!("cargo::rerun-if-changed=../../include");
+    for watched in ["../../include", BUILD] {
+        println!("cargo::rerun-if-changed={watched}");
+    }
     let out = env::var("OUT_DIR").map_err(|why| why.to_string())?;
-    let made = Command::new("sh").arg("host/build.sh").arg(archive).arg(&out).status();
+    let made = Command::new("sh").args([BUILD, "host/host.c"]).arg(archive).arg(&out).status();
     if !made.is_ok_and(|status| status.success()) {
-        return Err("host/build.sh failed; above is what it said".to_string());
+        return Err(format!("{BUILD} failed; above is what it said"));
     }
     println!("cargo::rustc-env=REED_HOST={out}/host");
     Ok(())

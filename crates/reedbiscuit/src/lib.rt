@@ -2,10 +2,11 @@
 use checker::Checked;
 use compiler::Compiled;
 use reader::Answer;
+use runner::Ran;
 use watcher::Watched;
 ghost use mathlib.Core.Path.{_≡_};
-ghost use Rattle.documents.specs.Calls.{readCall, compileCall, checkCall, watchCall};
-ghost use Rattle.reedbiscuit.specs.Answers.{readNumber, readGiven, compileNumber, compileGiven, watchNumber, watchGiven};
+ghost use Rattle.documents.specs.Calls.{readCall, compileCall, checkCall, runCall, watchCall};
+ghost use Rattle.reedbiscuit.specs.Answers.{readNumber, readGiven, compileNumber, compileGiven, runNumber, runGiven, watchNumber, watchGiven};
 
 // 01's number where nothing is refused.
 const DONE: u32 = 0;
@@ -110,6 +111,39 @@ pub extern "C" fn reed_check(code: &[u32]) -> u32
         return DONE;
     };
     documents::number(refusal)
+}
+
+// Document 01's run: code applied at the root of a subject, the result at the front of the lent result table.
+#[no_mangle]
+pub extern "C" fn reed_run(
+    code: &[u32],
+    subject: &[u32],
+    working: &mut [u32],
+    result: &mut [u32],
+) -> ReedAnswer
+    ensures { λ r. ⌜ runGiven r (now (working .exit)) (now (result .exit)) ≡ runCall (now (code .entry)) (now (subject .entry)) (now (working .entry)) (now (result .entry)) ⌝ }
+{
+    let answer = runner::run(code, subject, working, result);
+    let Ran::Words(words) = answer else {
+        return ReedAnswer {
+            number: run_number(answer),
+            words: 0,
+        };
+    };
+    ReedAnswer {
+        number: DONE,
+        words,
+    }
+}
+
+// 01's number of the run's answer.
+fn run_number(answer: Ran) -> u32
+    ensures { λ r. ⌜ r ≡ runNumber answer ⌝ }
+{
+    let Ran::Refused(why) = answer else {
+        return DONE;
+    };
+    documents::number(why)
 }
 
 // Document 01's watch: the machine's counts after the first i outermost instructions.

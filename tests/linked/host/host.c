@@ -15,7 +15,7 @@ enum { STANDARD_INPUT, STANDARD_OUTPUT };
 enum { ALL_MADE, CUT_SHORT, TOO_LONG, NO_SUCH_CALL };
 enum { ANSWER_WORDS = 5, AREAS = 4, BATCH_WORDS = 1 << 22 };
 
-enum call { CALL_STACK, CALL_READ, CALL_COMPILE, CALL_CHECK, CALL_WATCH };
+enum call { CALL_STACK, CALL_READ, CALL_COMPILE, CALL_CHECK, CALL_RUN, CALL_WATCH };
 
 /* Of the stack that calls are made on; and what stands there until it is written to. */
 enum { STACK_BYTES = 1 << 17, PAINT = 0xA5 };
@@ -70,6 +70,14 @@ static void make_check(struct frame *frame, uint32_t *memory[AREAS])
     answer(frame, reed_check(memory[0] + code->before, code->length), 0, 0, 0, 0);
 }
 
+static void make_run(struct frame *frame, uint32_t *memory[AREAS])
+{
+    const struct area *code = &frame->areas[0], *subject = &frame->areas[1], *working = &frame->areas[2], *result = &frame->areas[3];
+    struct reed_answer run = reed_run(memory[0] + code->before, code->length, memory[1] + subject->before, subject->length,
+                                      memory[2] + working->before, working->length, memory[3] + result->before, result->length);
+    answer(frame, run.number, run.words, 0, 0, 0);
+}
+
 static void make_watch(struct frame *frame, uint32_t *memory[AREAS])
 {
     const struct area *code = &frame->areas[0], *subject = &frame->areas[1];
@@ -111,6 +119,9 @@ static uint32_t *make(struct frame *frame)
         return next;
     case CALL_CHECK:
         make_check(frame, memory);
+        return next;
+    case CALL_RUN:
+        make_run(frame, memory);
         return next;
     case CALL_WATCH:
         make_watch(frame, memory);

@@ -16,4 +16,5 @@ pub mod engine;
 pub mod guarded;
 pub mod numbers;
 pub mod read;
+pub mod run;
 pub mod watch;

@@ -31,7 +31,7 @@ impl Watch {
 }
 
 impl Call for Watch {
-    const NUMBER: u32 = 4;
+    const NUMBER: u32 = 5;
 
     fn areas(&mut self) -> Vec<&mut dyn Area> {
         vec![&mut self.code, &mut self.subject]

@@ -38,6 +38,10 @@ fn the_limits_are_those_of_the_second_implementation() {
         ("REED_CODE_WORDS", CODE_WORDS),
         ("REED_SUBJECT_NODES", SUBJECT_NODES),
         ("REED_SUBJECT_WORDS", NODE_WORDS * SUBJECT_NODES),
+        ("REED_RESULT_NODES", RESULT_NODES),
+        ("REED_RESULT_WORDS", NODE_WORDS * RESULT_NODES),
+        ("REED_INDEX", INDEX as usize),
+        ("REED_WORKING_WORDS", WORKING_WORDS),
     ];
     assert_eq!(constants()[18..], limits);
 }

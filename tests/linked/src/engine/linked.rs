@@ -49,6 +49,17 @@ extern "C" {
 
     fn reed_check(code: *const u32, code_length: usize) -> u32;
 
+    fn reed_run(
+        code: *const u32,
+        code_length: usize,
+        subject: *const u32,
+        subject_length: usize,
+        working: *mut u32,
+        working_length: usize,
+        result: *mut u32,
+        result_length: usize,
+    ) -> ReedAnswer;
+
     fn reed_watch(
         code: *const u32,
         code_length: usize,
@@ -97,6 +108,24 @@ pub fn compile(left: &[u32], right: &[u32], code: &mut [u32]) -> Answer {
 pub fn check(code: &[u32]) -> u32 {
     // Sound: as for `read`.
     unsafe { reed_check(code.as_ptr(), code.len()) }
+}
+
+#[inline]
+pub fn run(code: &[u32], subject: &[u32], working: &mut [u32], result: &mut [u32]) -> Answer {
+    // Sound: as for `read`.
+    let ReedAnswer { number, words } = unsafe {
+        reed_run(
+            code.as_ptr(),
+            code.len(),
+            subject.as_ptr(),
+            subject.len(),
+            working.as_mut_ptr(),
+            working.len(),
+            result.as_mut_ptr(),
+            result.len(),
+        )
+    };
+    Answer { number, words }
 }
 
 #[inline]

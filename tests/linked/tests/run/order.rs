@@ -1,6 +1,7 @@
 //! Calls with several refusals due at once, so that the first one in document 01's order shows.
 
-use second::limits::{DEPTH, INDEX, NODE_WORDS, SUBJECT_NODES};
+use linked::run::{Lent, Run};
+use second::limits::{DEPTH, INDEX, NODE_WORDS, SUBJECT_NODES, WORKING_WORDS};
 use second::seed::{Rng, Rule, Term};
 use Term::{Meta, Sym, Var};
 
@@ -48,6 +49,18 @@ pub fn first_due(rng: &mut Rng, first: Defect) -> Vec<Vec<Defect>> {
     sets.extend(later.iter().map(|defect| vec![*defect]));
     sets.iter_mut().for_each(|set| set.push(first));
     sets
+}
+
+/// A run with these defects.
+pub fn run(rng: &mut Rng, defects: &[Defect]) -> Run {
+    let has = |defect| defects.contains(&defect);
+    let case = defective(rng, defects);
+    let working =
+        if has(WorkingShort) { rng.below(WORKING_WORDS) } else { WORKING_WORDS + rng.below(3) };
+    // The result's nodes: three abstractions over one to 63 others.
+    let (least, most) = (NODE_WORDS * 4, NODE_WORDS * 70);
+    let result = if has(ResultTooLarge) { rng.below(least) } else { most };
+    Run::new(rng, &case.code, &case.subject, Lent { working, result, reach: most })
 }
 
 /// F(A, Z, X) to [[[Z]]], on a subject that it matches, but for these defects.

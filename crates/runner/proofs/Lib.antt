@@ -1,0 +1,5 @@
+pub mod Answering
+pub mod Readied
+pub mod Measuring
+pub mod Applying
+pub mod Cleared
