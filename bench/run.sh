@@ -6,6 +6,9 @@
 set -euo pipefail
 cd "$(dirname "$0")"
 
+# callgrind counts `rep stosb` once a byte, though it is one instruction; with these the C library clears and copies by vectors instead.
+export GLIBC_TUNABLES=glibc.cpu.x86_rep_stosb_threshold=1000000000:glibc.cpu.x86_rep_movsb_threshold=1000000000
+
 cargo build --offline --release --quiet -j1
 bench=target/release/reed-bench
 scratch=$(mktemp -d)

@@ -124,7 +124,7 @@ pub extern "C" fn reed_run(
     ensures { λ r. ⌜ runGiven r (now (working .exit)) (now (result .exit)) ≡ runCall (now (code .entry)) (now (subject .entry)) (now (working .entry)) (now (result .entry)) ⌝ }
 {
     let answer = runner::run(code, subject, working, result);
-    let Ran::Words(words) = answer else {
+    let Ran::Words(made) = answer else {
         return ReedAnswer {
             number: run_number(answer),
             words: 0,
@@ -132,7 +132,7 @@ pub extern "C" fn reed_run(
     };
     ReedAnswer {
         number: DONE,
-        words,
+        words: made,
     }
 }
 

@@ -56,7 +56,7 @@ const NUMBERS: [u32; 11] = [
 fn reed_run_does_what_the_second_implementation_does() {
     let tally = compare(&KINDS);
     print!("reed_run: {tally}");
-    assert!(tally.calls() >= 300_000);
+    assert!(tally.calls() >= 500_000);
     for number in NUMBERS {
         assert!(tally.times(number) >= 1_000, "{number} came {} times", tally.times(number));
     }
@@ -103,8 +103,8 @@ const KINDS: [Kind<Run>; 80] = [
         every_length(rng, foreign_short)
     }),
     // Compiled.
-    Kind::new("compiled, matching", &[0, 13], 15_000, |rng| one(rng, compiled)).or_rarely(&[14]),
-    Kind::new("compiled, short, matching", MADE, 20_000, |rng| one(rng, compiled_short))
+    Kind::new("compiled, matching", &[0, 13], 30_000, |rng| one(rng, compiled)).or_rarely(&[14]),
+    Kind::new("compiled, short, matching", MADE, 40_000, |rng| one(rng, compiled_short))
         .or_rarely(&[13, 14]),
     Kind::new("compiled, a leaf changed", &[0, 12, 13], 5_000, |rng| {
         changed(rng, compiled, other_leaf)
@@ -141,8 +141,8 @@ const KINDS: [Kind<Run>; 80] = [
     Kind::new("compiled, damaged", &[0, 11, 12], 3_000, |rng| changed(rng, compiled, damaged))
         .or_rarely(&[13, 14]),
     // Foreign.
-    Kind::new("foreign", &[0, 12, 13], 20_000, |rng| one(rng, foreign)).or_rarely(&[14, 15]),
-    Kind::new("foreign, another subject for it", &[0, 12], 15_000, |rng| one(rng, foreign_again))
+    Kind::new("foreign", &[0, 12, 13], 40_000, |rng| one(rng, foreign)).or_rarely(&[14, 15]),
+    Kind::new("foreign, another subject for it", &[0, 12], 30_000, |rng| one(rng, foreign_again))
         .or_rarely(&[13, 14, 15]),
     Kind::new("foreign, a leaf changed", &[0, 12], 8_000, |rng| changed(rng, foreign, other_leaf))
         .or_rarely(&[13, 14, 15]),
@@ -271,7 +271,7 @@ const KINDS: [Kind<Run>; 80] = [
         let short = Case::new(vec![2, 8, 0, 0], subject.clone());
         vec![lent::with_room(rng, &Case::new(code, subject)), lent::with_room(rng, &short)]
     }),
-    Kind::new("small subjects", &[0, 1, 4, 12], 10_000, small_subjects),
+    Kind::new("small subjects", &[0, 1, 4, 12], 40_000, small_subjects),
 ];
 
 /// Makes code with a subject.
