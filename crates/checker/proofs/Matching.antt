@@ -463,3 +463,11 @@ number-refused t {r} w e p = go (passes t) (sym p ∙ e)
     go : (q : Bool) → Refused w ≡ verdict q → numberOf w ≡ cond q 0 11
     go true e = never (cc)
     go false e = let z : w ≡ DoesNotPass = cc in rw z
+
+-- what a caller knows of code that passes
+pub verdict-passes : (code : List ℕ) {r : Checked} → r ≡ verdict (passes code) → r ≡ Passes → passes code ≡ true
+verdict-passes code e f = go (passes code) (sym f ∙ e)
+  where
+    go : (q : Bool) → Passes ≡ verdict q → q ≡ true
+    go true e = refl
+    go false e = never (cc)

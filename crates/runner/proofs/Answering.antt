@@ -13,20 +13,18 @@ use Rattle.documents.specs.declared.Refusal.the-variants.{DoesNotPass, MatchFai
 use Rattle.documents.specs.Limits.{indexLimit}
 use Rattle.documents.specs.Lists.{every}
 use Rattle.documents.specs.Terms.{one, Term}
-use Rattle.documents.specs.Tables.{tableOf, nodes, indices}
+use Rattle.documents.specs.Tables.{tableOf, indices}
 use Rattle.documents.specs.Instructions.{Program}
 use Rattle.documents.specs.Machine.{Entry, state, done, fails, run, finished}
 use Rattle.documents.specs.Passing.{passes}
 use Rattle.documents.specs.Numbers.{Answer, answered, refused, orRefuse, with, subjectIn, codeIn, outcomeOf, resultFor}
 use Rattle.documents.specs.Calls.{atFront, zeros, runAnswer, runs, runCall}
 use Rattle.documents.proofs.Lists.{never, T-of}
-use Rattle.documents.proofs.Numbers.{subjectIn-held}
 use Rattle.documents.proofs.Tables.{length-tableOf}
 use Rattle.tables.specs.declared.accept.Sized.{Sized}
 use Rattle.tables.specs.declared.accept.Sized.the-variants as sized
 use Rattle.tables.specs.Parts.{front}
 use Rattle.tables.specs.Answers.{sized}
-use Rattle.tables.proofs.Accepted.{table-begins}
 use Rattle.safety.proofs.NeverStuck.{passing-obeys}
 use Rattle.checker.specs.declared.Checked.{Checked}
 use Rattle.checker.specs.declared.Checked.the-variants as checked
@@ -130,23 +128,3 @@ module _ (work result : List ℕ) {ent : ℕ → Term} {p : Tree one} {u : Term}
               let z : 0 + length (tableOf u) ≡ 2 * nodesOf ent p = let k = size in omega arith in
               sets-eq (tableOf u) result 0 (omega arith)
               ∙ (ap (λ (k : ℕ). tableOf u ++ drop k result) z ∙ ap (λ (ws : List ℕ). ws ++ drop (2 * nodesOf ent p) result) (t .words))
-
--- an accepted subject's table begins with it
-pub subject-there : (subject : List ℕ) {n : ℕ} {r : Sized} → r ≡ sized (subjectIn subject) → r ≡ sized.Nodes n
-    → (subjectIn subject ≡ answered (front subject)) × (n ≡ nodes (front subject))
-subject-there subject e f = go (subjectIn subject) refl (sym f ∙ e)
-  where
-    go : {n : ℕ} (a : Answer Term) → subjectIn subject ≡ a → sized.Nodes n ≡ sized a → (subjectIn subject ≡ answered (front subject)) × (n ≡ nodes (front subject))
-    go (refused w) q e = never (cc)
-    go {n} (answered u) q e =
-        let h = subjectIn-held subject u q .0 in
-        let z : front subject ≡ u = table-begins u subject (h .table) (h .fits) .1 in
-        let k : n ≡ nodes u = cc in
-        (q ∙ ap answered (sym z), k ∙ ap (λ (v : Term). nodes v) (sym z))
-
-pub verdict-passes : (code : List ℕ) {r : Checked} → r ≡ verdict (passes code) → r ≡ checked.Passes → passes code ≡ true
-verdict-passes code e f = go (passes code) (sym f ∙ e)
-  where
-    go : (q : Bool) → checked.Passes ≡ verdict q → q ≡ true
-    go true e = refl
-    go false e = never (cc)

@@ -14,6 +14,7 @@ use Rattle.documents.specs.Calls.{zeros, runAnswer, runs, runCall}
 use Rattle.documents.proofs.Lists.{T-of}
 use Rattle.tables.specs.declared.accept.Sized.{Sized}
 use Rattle.tables.specs.declared.accept.Sized.the-variants as sized
+use Rattle.tables.proofs.Accepted.{subject-there}
 use Rattle.safety.proofs.NeverStuck.{passing-obeys}
 use Rattle.survey.specs.Places.{Surveyed}
 use Rattle.matcher.specs.declared.Matched.{Matched}
@@ -22,7 +23,7 @@ use Rattle.matcher.specs.Ready.{ComesTo, Comes}
 use Rattle.runner.specs.declared.Ran.{Ran}
 use Rattle.runner.specs.declared.Ran.the-variants as ran
 use Rattle.runner.specs.Answers.{given, Applied, Begun, Building}
-use Rattle.runner.proofs.Answering.{programOf, run-fails, subject-there}
+use Rattle.runner.proofs.Answering.{programOf, run-fails}
 
 -- ---- Tables of one length
 

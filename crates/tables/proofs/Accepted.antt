@@ -21,8 +21,9 @@ use Rattle.documents.specs.Rules.{metas}
 use Rattle.documents.specs.Numbers.{Answer, answered, refused, unless, orRefuse, with, tableIn, subjectIn}
 use Rattle.documents.proofs.Lists.{never, on, T-of, of-and, and-assoc, and-true, andThen-is}
 use Rattle.documents.proofs.Tables.{before, tableOf-termIn, length-tableOf, termsIn-tableOf, termsIn-tablesOf, subterm-place}
-use Rattle.documents.proofs.Numbers.{tableIn-held}
+use Rattle.documents.proofs.Numbers.{tableIn-held, subjectIn-held}
 use Rattle.tables.specs.Parts.{held, firstTerms, terms, front, Begins, wordCount}
+use Rattle.tables.specs.declared.accept.Sized.{Sized}
 use Rattle.tables.specs.declared.accept.Sized.the-variants.{Nodes, Refused}
 use Rattle.tables.specs.Answers.{sized, isThere, isGood, fitsKind, inLayout}
 use Rattle.tables.proofs.Parts.{join, only, headed, Shape, Opened, opened, first-before, two, front-term, begins-less}
@@ -394,6 +395,19 @@ unfolding front held
 table-begins u t e f =
     let p : termsIn t ≡ some (u ∷ []) = rw (← e, ← (append-nil (tableOf u))) (termsIn-tablesOf (u ∷ []) (f, tt)) in
     (record { whole = rw p refl; enough = rw p (omega arith) }, rw p refl)
+
+-- an accepted subject's table begins with it
+pub subject-there : (subject : List ℕ) {n : ℕ} {r : Sized} → r ≡ sized (subjectIn subject) → r ≡ Nodes n
+    → (subjectIn subject ≡ answered (front subject)) × (n ≡ nodes (front subject))
+subject-there subject e f = go (subjectIn subject) refl (sym f ∙ e)
+  where
+    go : {n : ℕ} (a : Answer Term) → subjectIn subject ≡ a → Nodes n ≡ sized a → (subjectIn subject ≡ answered (front subject)) × (n ≡ nodes (front subject))
+    go (refused w) q e = never (cc)
+    go {n} (answered u) q e =
+        let h = subjectIn-held subject u q .0 in
+        let z : front subject ≡ u = table-begins u subject (h .table) (h .fits) .1 in
+        let k : n ≡ nodes u = cc in
+        (q ∙ ap answered (sym z), k ∙ ap (λ (v : Term). nodes v) (sym z))
 
 pub record AcceptedTable (limit : ℕ) (t : List ℕ) (n : ℕ) : Type 0 where
   pub begins : Begins 1 t

@@ -20,14 +20,12 @@ use Rattle.documents.specs.Passing.{andThenHolds, obeys, passes}
 use Rattle.documents.specs.Numbers.{Answer, answered, refused, with, subjectIn, codeIn, outcomeOf}
 use Rattle.documents.specs.Calls.{nodeOf, counts, watches}
 use Rattle.documents.proofs.Lists.{never, on, T-of, of-and}
-use Rattle.documents.proofs.Numbers.{subjectIn-held}
 use Rattle.tables.specs.declared.accept.Sized.{Sized}
 use Rattle.tables.specs.declared.accept.Sized.the-variants as sized
 use Rattle.tables.specs.Parts.{front, terms}
 use Rattle.tables.specs.Answers.{sized}
 use Rattle.tables.proofs.Parts.{passed}
 use Rattle.tables.proofs.Walks.{walking-ended}
-use Rattle.tables.proofs.Accepted.{table-begins}
 use Rattle.safety.proofs.Entries.{entries-length}
 use Rattle.safety.proofs.Building.{laid, builds-as-checked}
 use Rattle.safety.proofs.Matching.{currents-length}
@@ -94,21 +92,6 @@ module _ (code subject : List ℕ) (i : ℕ) where
 
       watch-fails : run (first i code-program) (front subject) ≡ fails → watches code subject i ≡ refused MatchFails
       watch-fails e = watches-are ∙ rw e
-
--- an accepted subject's table begins with it
-pub subject-there : (subject : List ℕ) {n : ℕ} {r : Sized} → r ≡ sized (subjectIn subject) → r ≡ sized.Nodes n → subjectIn subject ≡ answered (front subject)
-subject-there subject e f = go (subjectIn subject) refl (sym f ∙ e)
-  where
-    go : {n : ℕ} (a : Answer Term) → subjectIn subject ≡ a → sized.Nodes n ≡ sized a → subjectIn subject ≡ answered (front subject)
-    go (refused w) q e = never (cc)
-    go (answered u) q e = let h = subjectIn-held subject u q .0 in q ∙ ap answered (sym (table-begins u subject (h .table) (h .fits) .1))
-
-pub verdict-passes : (code : List ℕ) {r : Checked} → r ≡ verdict (passes code) → r ≡ checked.Passes → passes code ≡ true
-verdict-passes code e f = go (passes code) (sym f ∙ e)
-  where
-    go : (q : Bool) → checked.Passes ≡ verdict q → q ≡ true
-    go true e = refl
-    go false e = never (cc)
 
 -- ---- the loop
 

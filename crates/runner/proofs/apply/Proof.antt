@@ -1,7 +1,8 @@
 -- `runner::apply`: 16, 11 by the check, the subject's refusals by the survey; of the others `rewrite` has decided.
 use mathlib.Core.Path.{refl}
 use native.Mathlib.Omega.{arith}
-use Rattle.runner.proofs.Answering.{run-short, run-unchecked, run-refused, verdict-passes}
+use Rattle.checker.proofs.Matching.{verdict-passes}
+use Rattle.runner.proofs.Answering.{run-short, run-unchecked, run-refused}
 use Rattle.runner.proofs.Applying.{begun-from, applied-before}
 use borrow.Author.Needs.{needs}
 use Rattle.runner.proofs.apply.Statement.{statement}
