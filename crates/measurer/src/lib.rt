@@ -241,16 +241,19 @@ fn spread(
 {
     let root = work[places];
     let mut owed: usize = 1;
-    let mut at: usize = 0;
+    let mut node: usize = 0;
     let mut more: usize = 0;
+    // A place is a depth times LEVEL, and abstractions below that: the highest place has the greatest depth, so that one division does for all nodes.
+    // What is deeper through bodies is kept apart.
+    let mut highest: u32 = 0;
     let mut deepest: u32 = 0;
     let mut farthest: u32 = 0;
     while 0 < owed {
-        let word = part[at];
-        let here = work[places + at / 2] - root;
-        owed = owed - 1 + part[at + 1] as usize;
-        at += 2;
-        deepest = greater(deepest, here / LEVEL + 1);
+        let word = part[2 * node];
+        let here = work[places + node] - root;
+        owed = owed - 1 + part[2 * node + 1] as usize;
+        node += 1;
+        highest = greater(highest, here);
         if is_free(word, here % LEVEL) {
             let Span::Of(nodes, deep, far) = free(
                 code,
@@ -274,8 +277,12 @@ fn spread(
             farthest = greater(farthest, far);
         }
     }
-    work[push + 1] = (2 * (places - NODES_AT) + at) as u32;
-    Span::Of(at / 2 + more, cap(deepest), farthest)
+    work[push + 1] = (2 * (places - NODES_AT + node)) as u32;
+    Span::Of(
+        node + more,
+        cap(greater(deepest, highest / LEVEL + 1)),
+        farthest,
+    )
 }
 
 // A variable that is free in an entry, under so many abstractions of it. A body is measured where it is first met.

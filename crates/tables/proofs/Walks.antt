@@ -149,6 +149,10 @@ module _ {part : List ℕ} {owed at : ℕ} (w : Walking part owed at) (h : 0 < o
     room = w .room;
   }
 
+  -- past a leaf, which is whole
+  pub walking-leaf : getD part (at + 1) 0 ≡ 0 → Walking part (owed - 1) (at + 2)
+  walking-leaf e = let z : owed - 1 + getD part (at + 1) 0 ≡ owed - 1 = omega arith in rw z at walking-on
+
   -- past whole terms, of m nodes
   walking-past : (m next : ℕ) → nodes (terms owed (drop at part)) ≡ m + nodes (terms (owed - 1) (drop next part)) → next ≡ at + 2 * m → Begins (owed - 1) (drop next part)
       → Walking part (owed - 1) next

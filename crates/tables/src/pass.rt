@@ -2,7 +2,7 @@
 ghost use mathlib.Core.Path.{_≡_};
 ghost use Rattle.tables.specs.Parts.{front, Begins, wordCount};
 
-// How many words the subterm has that a part begins with: a call a level, the arguments by a loop.
+// How many words the subterm has that a part begins with: a call a level, the arguments by a loop, where a leaf needs no call.
 pub fn skip(part: &[u32]) -> usize
     requires { ⌜ Begins 1 (now part) ⌝ }
     ensures { λ r. ⌜ r ≡ wordCount (front (now (part .entry))) ⌝ }
@@ -10,8 +10,12 @@ pub fn skip(part: &[u32]) -> usize
     let mut left = part[1];
     let mut at: usize = 2;
     while 0 < left {
-        at += skip(&part[at..]);
         left -= 1;
+        if part[at + 1] == 0 {
+            at += 2;
+            continue;
+        }
+        at += skip(&part[at..]);
     }
     at
 }

@@ -1,19 +1,19 @@
 use Rattle.links.specs.Standing.{entryPlace}
 use Rattle.tables.proofs.Parts.{from-drop}
-use Rattle.measurer.proofs.Walked.{root-room, not-below, few-levels, next-words, free-here, large-here, meets-here, larger-here, met-on, pass-on, end-small, write-room}
+use Rattle.measurer.proofs.Walked.{root-room, not-below, few-levels, next-words, free-here, large-here, meets-here, larger-here, met-on, pass-on, end-small}
 use Rattle.trees.specs.Trees.{further}
 use Rattle.links.proofs.Keyed.{bodied-readable}
-use Rattle.measurer.proofs.Answering.{measures-of, measures-large, pushes-of, pushes-large, spreads-are, frees-of, frees-large, meets-too-large, small-reach, noted-small, end-answer, full-answer, plain-pre, growing-plain, push-answer, over-answer, growing-at, push-falls, next-pre}
+use Rattle.measurer.proofs.Answering.{measures-of, measures-large, pushes-of, pushes-large, spreads-are, meets-too-large, small-reach, noted-small, end-answer, full-answer, plain-pre, growing-plain, push-answer, over-answer, growing-at, push-falls, next-pre}
 use mathlib.Core.Path.{_≡_, refl, sym, ap, _∙_}
 use native.Mathlib.Omega.{arith}
 use Prim.Native.Nat.{_+_, _-_, _*_}
 use lib.ListN.{length, getD}
 use Rattle.measurer.specs.Linking.{placeNext}
 use Rattle.measurer.specs.Measuring.{pushEnd}
-use Rattle.measurer.proofs.Growing.{Growing, growing-from, build-op, growing-lambda, growing-pushvar, growing-adbmal, growing-cell, Pushable, pushable, growing-push, full-push, full-plain, growing-end}
-use Rattle.measurer.proofs.Spreading.{Spanned, span-from, node-words, node-place, place-bounds, place-room, span-on, span-free, span-large, span-larger, span-met, span-end}
-use Rattle.measurer.proofs.Meeting.{meets-none, key-in, key-long, body-end, body-low, body-sequence, meets-large, noted, noted-root, noted-reach, meets-before, root-small, long₁, note-room, depth-room, meets-now}
-use Rattle.measurer.proofs.Pushing.{entry-in, first-low, whole-spreading, whole-pushes, whole-large, is-pushi, bodies-pre, bodies-read, push-spreading, push-pushes, whole-falls, bodies-fall}
+use Rattle.measurer.proofs.Growing.{Growing, growing-from, growing-lambda, pushable}
+use Rattle.measurer.proofs.Spreading.{Spanned, span-from, place-room, span-end}
+use Rattle.measurer.proofs.Meeting.{meets-none, key-in, key-long, body-end, body-low, body-sequence, noted, noted-root, meets-before, root-small, note-room, depth-room, meets-now}
+use Rattle.measurer.proofs.Pushing.{first-low, whole-spreading, whole-pushes, whole-large, bodies-pre, bodies-read, push-spreading, push-pushes, whole-falls, bodies-fall}
 use borrow.Author.Needs.{needs}
 use Prim.Native.Nat.{ℕ, _<_}
 use borrow.Fn.Kinds.{In}
@@ -93,12 +93,12 @@ measure-μ-loop code from end subject entries work₀ most at₀ last₀ sum₀ 
     end - at
 
 abbrev spread-Inv-loop : spread-lts.InvT-loop
-spread-Inv-loop code push count shift part places subject entries work₀ most root owed₀ at₀ more₀ deepest₀ farthest₀ work owed at more deepest farthest =
-    Spanned code push count shift part places subject entries work₀ most work owed at more deepest farthest × (root ≡ getD work₀ places 0)
+spread-Inv-loop code push count shift part places subject entries work₀ most root owed₀ node₀ more₀ highest₀ deepest₀ farthest₀ work owed node more highest deepest farthest =
+    Spanned code push count shift part places subject entries work₀ most work owed node more highest deepest farthest × (root ≡ getD work₀ places 0)
 
 abbrev spread-μ-loop : spread-lts.MeasureT-loop
-spread-μ-loop code push count shift part places subject entries work₀ most root owed₀ at₀ more₀ deepest₀ farthest₀ work owed at more deepest farthest =
-    length part - at
+spread-μ-loop code push count shift part places subject entries work₀ most root owed₀ node₀ more₀ highest₀ deepest₀ farthest₀ work owed node more highest deepest farthest =
+    length part - 2 * node
 
 pub +free+measure+push+spread-spec : {M : Type 1} → statement M
 +free+measure+push+spread-spec = close μ-free μ-measure μ-push μ-spread (λ t. free-lts.spec (
@@ -283,6 +283,7 @@ pub +free+measure+push+spread-spec : {M : Type 1} → statement M
     (λ c. (span-from (c .before .before .before .before .before .before .pre .1), refl))
     (λ c. search needs)
     (λ c. search needs)
+    (λ c. search needs)
     (λ c. let k = place-room (c .before .before .before .before .before .before .before .before .before .pre .1) (c .before .before .loop .inv .0) (c .before .loop-test .taken) in search needs)
     (λ c. let k = place-room (c .before .before .before .before .before .before .before .before .before .pre .1) (c .before .before .loop .inv .0) (c .before .loop-test .taken) in search needs)
     (λ c. place-room (c .before .before .before .before .before .before .before .before .before .before .pre .1) (c .before .before .before .loop .inv .0) (c .before .before .loop-test .taken))
@@ -291,10 +292,10 @@ pub +free+measure+push+spread-spec : {M : Type 1} → statement M
     (λ c. search needs)
     (λ c. search needs)
     (λ c. search needs)
+    (λ c. search needs)
     (λ c. let k = next-words (c .before .before .before .before .before .before .before .before .before .before .before .pre .1) (c .before .before .before .before .loop .inv .0) (c .before .before .before .before .loop .inv .1) (c .before .before .before .loop-test .taken) in search needs)
     (λ c. let k = next-words (c .before .before .before .before .before .before .before .before .before .before .before .pre .1) (c .before .before .before .before .loop .inv .0) (c .before .before .before .before .loop .inv .1) (c .before .before .before .loop-test .taken) in search needs)
     (λ c. search needs)
-    (λ c. let k = few-levels (c .before .before .before .before .before .before .before .before .before .before .before .pre .1) (c .before .before .before .before .loop .inv .0) (c .before .before .before .before .loop .inv .1) (c .before .before .before .loop-test .taken) in search needs)
     (λ c κs. search needs)
     (λ c κs. search needs)
     (λ c κs. ((let m = c .before .before .before .before .before .before .before .before .before .before .before .before .before .before .before .pre .0 in omega arith), free-here (c .before .before .before .before .before .before .before .before .before .before .before .before .before .before .before .pre .1) (c .before .before .before .before .before .before .before .before .loop .inv .0) (c .before .before .before .before .before .before .before .before .loop .inv .1) (c .before .before .before .before .before .before .before .loop-test .taken) (c .before .before .is-free .ensures) (c .before .if1 .taken)))
@@ -313,14 +314,16 @@ pub +free+measure+push+spread-spec : {M : Type 1} → statement M
     (λ c. (met-on (c .before .before .before .before .before .before .before .before .before .before .before .before .before .before .before .before .before .before .before .before .before .before .before .before .pre .1) (c .before .before .before .before .before .before .before .before .before .before .before .before .before .before .before .before .before .loop .inv .0) (c .before .before .before .before .before .before .before .before .before .before .before .before .before .before .before .before .before .loop .inv .1) (c .before .before .before .before .before .before .before .before .before .before .before .before .before .before .before .before .loop-test .taken) (c .before .before .before .before .before .before .before .before .before .before .before .is-free .ensures) (c .before .before .before .before .before .before .before .before .before .before .if1 .taken) (c .before .before .before .before .before .before .before .before .free .ensures) (c .before .before .before .before .nodes .given .1) (let h = c .before .before .if2 .left in omega arith) (c .before .before .before .before .before .before .before .before .before .before .before .before .greater .ensures) (c .before .greater2 .ensures) (c .greater3 .ensures), c .before .before .before .before .before .before .before .before .before .before .before .before .before .before .before .before .before .loop .inv .1))
     (λ c. search needs)
     (λ c. (pass-on (c .before .before .before .before .before .before .before .before .before .before .before .before .before .before .pre .1) (c .before .before .before .before .before .before .before .loop .inv .0) (c .before .before .before .before .before .before .before .loop .inv .1) (c .before .before .before .before .before .before .loop-test .taken) (c .before .is-free .ensures) (c .if1 .left) (c .before .before .greater .ensures), c .before .before .before .before .before .before .before .loop .inv .1))
+    (λ c. let e = end-small (c .before .before .before .before .before .before .before .before .pre .1) (c .before .loop .inv .0) (omega arith) in let b = e .1 in search needs)
+    (λ c. let e = end-small (c .before .before .before .before .before .before .before .before .pre .1) (c .before .loop .inv .0) (omega arith) in let a = e .0 in let b = e .1 in search needs)
+    (λ c. let e = end-small (c .before .before .before .before .before .before .before .before .pre .1) (c .before .loop .inv .0) (omega arith) in let a = e .0 in let b = e .1 in search needs)
+    (λ c. let e = end-small (c .before .before .before .before .before .before .before .before .pre .1) (c .before .loop .inv .0) (omega arith) in let a = e .0 in let b = e .1 in search needs)
     (λ c. search needs)
-    (λ c. let e = end-small (c .before .before .before .before .before .before .before .before .pre .1) (c .before .loop .inv .0) (omega arith) in let a = e .0 in let b = e .1 in search needs)
-    (λ c. let e = end-small (c .before .before .before .before .before .before .before .before .pre .1) (c .before .loop .inv .0) (omega arith) in let a = e .0 in let b = e .1 in search needs)
-    (λ c. let e = end-small (c .before .before .before .before .before .before .before .before .pre .1) (c .before .loop .inv .0) (omega arith) in let a = e .0 in let b = e .1 in search needs)
     (λ c. search needs)
     (λ c. search needs)
     (λ c. search needs)
     (λ c. search needs)
     (λ c κs. search needs)
+    (λ c κs. search needs)
     (λ c. search needs)
-    (λ c. span-end (c .before .before .before .before .before .before .before .before .before .pre .1) (c .before .before .loop .inv .0) (omega arith) refl refl (c .cap .ensures))
+    (λ c. span-end (c .before .before .before .before .before .before .before .before .before .before .pre .1) (c .before .before .before .loop .inv .0) (omega arith) refl refl (c .before .greater4 .ensures) (c .cap .ensures))
