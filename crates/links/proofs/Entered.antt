@@ -4,9 +4,8 @@ use Prim.Native.Nat.{ℕ, zero, suc, _+_, _-_, _*_, _/_, _≤_, _<_}
 use native.Mathlib.Omega.{arith}
 use mathlib.Core.Option.{some}
 use mathlib.Core.List.{List, [], _∷_, _++_, append-assoc}
-use lib.ListN.{length, getD, take, drop, take-append-drop, length-append}
+use lib.ListN.{length, getD, drop, take-append-drop, length-append}
 use Rattle.documents.specs.Tables.{tableOf, Fits, nodes, depth, subterm}
-use Rattle.documents.specs.Terms.{Term}
 use lib.Seq.{drop-at}
 use Rattle.documents.proofs.Tables.{subterm-place, length-tableOf}
 use Rattle.tables.specs.Parts.{front, Begins}

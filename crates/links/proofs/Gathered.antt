@@ -1,8 +1,8 @@
 -- An entry node by node is the entry itself: what a walk adds up over the words and places of a term's nodes follows the term.
 use mathlib.Core.Path.{_≡_, refl, sym, ap, _∙_}
-use Prim.Native.Nat.{ℕ, zero, suc, _+_}
+use Prim.Native.Nat.{ℕ, suc, _+_}
 use native.Mathlib.Omega.{arith}
-use mathlib.Core.List.{List, [], _∷_, _++_, append-assoc}
+use mathlib.Core.List.{List, _∷_, _++_, append-assoc}
 use Rattle.documents.specs.Terms.{Sort, Tm, Var, Sym, Meta, Abst, Nil, Cons, len}
 use Rattle.documents.specs.Tables.{nodeWord, tableOf, nodes}
 use Rattle.survey.specs.Places.{place, placesOf}

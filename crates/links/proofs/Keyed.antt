@@ -17,7 +17,7 @@ use Rattle.instructions.specs.Places.{programAt}
 use Rattle.trees.specs.Trees.{More, count, topOf, grown, nodesOf, depthOf, reachOf}
 use Rattle.links.specs.Bodies.{bodyEnd, Readable, keyPlace, placeBehind}
 use Rattle.links.specs.Sequences.{treeIn, treeAt, Sequenced, Bodied, keysAt, treesAt}
-use Rattle.links.proofs.Ran.{Held, HeldNext, held-next, held-none}
+use Rattle.links.proofs.Ran.{Held, HeldNext, held-next, held-none, nothing}
 
 -- ---- The first of c keys from q on that is y stands at k
 
@@ -33,9 +33,6 @@ pub record NoKey (code : List ℕ) (q c y : ℕ) : Type 0 where
   pub nodes : (ent : ℕ → Term) → assoc (pairlists (keysAt code q c) (nodesOf ent (treesAt code q c))) y ≡ none
   pub depth : (ent : ℕ → Term) → assoc (pairlists (keysAt code q c) (depthOf ent (treesAt code q c))) y ≡ none
   pub reach : (ent : ℕ → Term) → assoc (pairlists (keysAt code q c) (reachOf ent (treesAt code q c))) y ≡ none
-
-nothing : {A P : Type 0} {a : A} → none ≡ some a → P
-nothing e = never (cc)
 
 something : {A P : Type 0} {a : A} → some a ≡ none → P
 something e = never (cc)

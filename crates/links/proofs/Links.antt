@@ -1,6 +1,6 @@
 -- The words of a link and of a note, put together and taken apart.
 use mathlib.Core.Path.{_≡_, refl}
-use Prim.Native.Nat.{ℕ, _+_, _*_, _/_, _%_, _≤_, _<_}
+use Prim.Native.Nat.{ℕ, _+_, _*_, _/_, _%_, _<_}
 use native.Mathlib.Omega.{arith}
 use Rattle.links.specs.Links.{linkOf, beforeIn, overIn, depthIn, noteOf, nodesIn, reachIn}
 

@@ -68,7 +68,7 @@ pub record Pushes (t : List ℕ) (a e E h : ℕ) (c : Program) : Type 0 where
 
 -- ---- Bodies
 
-nothing : {A P : Type 0} {a : A} → none ≡ some a → P
+pub nothing : {A P : Type 0} {a : A} → none ≡ some a → P
 nothing e = never (cc)
 
 bodies-are : {t : List ℕ} {q e E k : ℕ} {b : Bodies} {m : ℕ} (c : Option Program) (o : Option ReadBodies)

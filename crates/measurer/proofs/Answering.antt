@@ -1,16 +1,14 @@
 -- What each function's answer comes to, from what its calls say.
-use mathlib.Core.Path.{_≡_, refl, sym, ap, _∙_}
-use mathlib.Core.Logic.{_⊎_, inl, inr}
-use Prim.Native.Nat.{ℕ, zero, suc, _+_, _-_, _*_, _/_, _≤_, _<_, max}
+use mathlib.Core.Path.{_≡_, refl, ap}
+use Prim.Native.Nat.{ℕ, _+_, _-_, _*_, _≤_, _<_, max}
 use native.Mathlib.Omega.{arith}
 use mathlib.Core.Bool.{Bool, true, false}
-use mathlib.Core.Option.{Option, none, some}
 use mathlib.Core.List.{List}
 use lib.Dec.{eqb}
-use lib.ListN.{length, getD, set, drop}
+use lib.ListN.{length, getD, set}
 use borrow.Author.Tests.{eqb-true, eqb-false}
 use Rattle.documents.specs.Instructions.{fixedAfter}
-use Rattle.trees.specs.Trees.{orOne, nodesOf, reachOf, spreadNodes}
+use Rattle.trees.specs.Trees.{orOne, nodesOf}
 use Rattle.links.specs.declared.find.Found.the-variants.{Key}
 use Rattle.links.specs.Links.{linkOf, reachIn}
 use Rattle.links.specs.Bodies.{bodyEnd, keyPlace, foundAt, Readable}
@@ -22,7 +20,7 @@ use Rattle.measurer.specs.declared.Measured.the-variants as measured
 use Rattle.measurer.specs.declared.Span.{Span}
 use Rattle.measurer.specs.declared.Span.the-variants as span
 use Rattle.measurer.specs.Linking.{plainLink, placeNext}
-use Rattle.measurer.specs.Measuring.{Kept, near, Sequence, Measure, Measures, pushTree, Pushing, Pushes, pushEnd, nodesFor, Spanning, Spreads, Free, Meets, Frees, Noted}
+use Rattle.measurer.specs.Measuring.{Kept, near, Sequence, Measure, Measures, pushTree, Pushing, Pushes, nodesFor, Spreads, Free, Meets, Frees, Noted}
 use Rattle.measurer.proofs.Kept.{kept-then, kept-wide}
 use Rattle.measurer.proofs.Growing.{Growing, growing-cell, growing-adbmal, growing-pushvar, build-op, Pushable, full-plain, full-push, growing-end, growing-push}
 use Rattle.measurer.proofs.Pushing.{bodies-pre, bodies-read}

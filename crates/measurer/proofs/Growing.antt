@@ -1,25 +1,22 @@
 -- Measuring a sequence: the trees made so far stand on a stack, their nodes are counted and their reach is known. Each instruction makes one of them.
 use mathlib.Core.Path.{_≡_, refl, sym, ap, ap₂, _∙_}
 use mathlib.Core.Logic.{_⊎_, inl, inr}
-use Prim.Native.Nat.{ℕ, zero, suc, _+_, _-_, _*_, _≤_, _<_, max, min}
+use Prim.Native.Nat.{ℕ, suc, _+_, _-_, _≤_, _<_, max}
 use native.Mathlib.Omega.{arith}
-use mathlib.Core.Bool.{Bool, true, false, cond}
-use mathlib.Core.Option.{Option, none, some}
+use mathlib.Core.Bool.{Bool, true, false}
+use mathlib.Core.Option.{some}
 use mathlib.Core.List.{List, [], _∷_}
-use lib.Dec.{T, eqb}
+use lib.Dec.{eqb}
 use lib.ListN.{length, getD, set, drop}
 use borrow.Author.Tests.{eq-eqb, ne-eqb, eqb-true, eqb-false}
 use Rattle.documents.specs.Terms.{Sort, one, many, Term}
-use Rattle.documents.specs.Instructions.{Program, Instruction, fixedAfter, End, _▸_, CELL, LAMBDA, ADBMAL, PUSHVAR, PUSHIMM, PUSHI, opPUSHIMM}
-use Rattle.documents.proofs.Lists.{never}
-use Rattle.trees.specs.Trees.{Tree, Cell, Block, Bound, Whole, Pushed, Leaf, More, count, taken, left, blocked, topOf, grown, sum, greatest, nodesOf, depthOf, reachOf}
-use Rattle.trees.proofs.Sizes.{nodes-positive}
-use Rattle.links.specs.Links.{linkOf, beforeIn, overIn, depthIn, capped}
-use Rattle.links.specs.Bodies.{bodyEnd, placeBehind}
-use Rattle.links.specs.Standing.{entryAt, Scene, back, Spot, root, last, held, Rooted, Named, Seen, Behind, Stands}
+use Rattle.documents.specs.Instructions.{Program, Instruction, fixedAfter, CELL, ADBMAL, PUSHVAR, PUSHIMM, PUSHI}
+use Rattle.trees.specs.Trees.{Tree, Cell, Block, Bound, Whole, Pushed, Leaf, count, taken, left, blocked, topOf, grown, nodesOf, depthOf, reachOf}
+use Rattle.links.specs.Links.{linkOf, beforeIn, overIn, capped}
+use Rattle.links.specs.Standing.{entryAt, Scene, back, Spot, root, last, held, Rooted, Named, Seen, Stands}
 use Rattle.instructions.specs.Places.{programAt}
-use Rattle.links.specs.Sequences.{treeIn, treeAt, Sequenced, Bodied, keysAt, treesAt}
-use Rattle.links.proofs.Links.{link-before, link-over, link-depth, before-low}
+use Rattle.links.specs.Sequences.{treeIn, treeAt, keysAt, treesAt}
+use Rattle.links.proofs.Links.{link-before, link-over, link-depth}
 use Rattle.links.proofs.Ran.{Follows, Next, cell-next, lambda-next, adbmal-next, pushvar-next, pushimm-next, pushi-next, follows-done, follows-build}
 use Rattle.links.proofs.Keyed.{held-trees, behind-low, count-trees}
 use Rattle.links.proofs.Stacks.{sizes, reaches, cell-sizes, cell-reaches, blocked-sizes, taken-count, left-length, grown-top, grown-one}
@@ -28,7 +25,7 @@ use Rattle.measurer.specs.Measuring.{Kept, near, Sequence, Measure, Push
 use Rattle.measurer.proofs.Linking.{link-pushvar, link-adbmal, link-cell, next-whole, next-push}
 use Rattle.measurer.proofs.Kept.{kept-none, kept-then, kept-wide, kept-set, set-here, set-there, scene-kept}
 use Rattle.measurer.proofs.Standing.{stands-kept, seen-all-kept}
-use Rattle.measurer.proofs.Stacking.{Stack, stands-deep, stands-falls, back-falls, Taken, stack-taken, deepest-taken, stack-kept}
+use Rattle.measurer.proofs.Stacking.{Stack, stands-deep, stands-falls, back-falls, stack-taken, deepest-taken, stack-kept}
 
 -- the tree of a sequence, from the program that stands there
 tree-is : (t : List ℕ) (a e : ℕ) (c : Program) → programAt t a e ≡ some c → topOf (grown c []) ≡ treeAt t a e

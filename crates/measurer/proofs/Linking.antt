@@ -2,7 +2,6 @@
 use mathlib.Core.Path.{_≡_, refl, sym, ap, ap₂, _∙_}
 use Prim.Native.Nat.{ℕ, zero, suc, _+_, _-_, _≤_, _<_, max}
 use native.Mathlib.Omega.{arith}
-use mathlib.Core.Bool.{true, false}
 use mathlib.Core.List.{List}
 use lib.ListN.{length, getD, set, length-set}
 use borrow.Author.Tests.{eq-eqb, ne-eqb}
@@ -24,7 +23,7 @@ pub record Backing (work : List ℕ) (n₀ z₀ n z deep : ℕ) : Type 0 where
 pub backing-from : {work : List ℕ} {n z : ℕ} → z < 4096 → Backing work n z n z 0
 backing-from h = record { same = refl; deepest = omega arith; low = h; small = omega arith }
 
-max-assoc : (a b c : ℕ) → max (max a b) c ≡ max a (max b c)
+pub max-assoc : (a b c : ℕ) → max (max a b) c ≡ max a (max b c)
 max-assoc a b c = omega arith
 
 step-back : (work : List ℕ) (n z : ℕ) → 0 < n → back work n z ≡ back work (n - 1) (beforeIn (getD work z 0))

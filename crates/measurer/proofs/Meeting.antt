@@ -1,14 +1,14 @@
 -- A variable of an entry: without a body, with one that is measured now, and with one that was measured before.
 use mathlib.Core.Path.{_≡_, refl, sym, ap, ap₂, _∙_}
-use mathlib.Core.Logic.{_⊎_, inl, inr}
-use Prim.Native.Nat.{ℕ, zero, suc, _+_, _-_, _*_, _≤_, _<_, min}
+use mathlib.Core.Logic.{inl, inr}
+use Prim.Native.Nat.{ℕ, zero, suc, _+_, _-_, _≤_, _<_}
 use native.Mathlib.Omega.{arith}
-use mathlib.Core.Bool.{Bool, true, false, not, cond}
+use mathlib.Core.Bool.{not, cond}
 use mathlib.Core.Option.{Option, none, some}
-use mathlib.Core.List.{List, [], _∷_}
+use mathlib.Core.List.{List}
 use lib.Dec.{eqb}
 use lib.ListN.{length, getD, set, drop, length-set}
-use borrow.Author.Tests.{eq-eqb, ne-eqb}
+use borrow.Author.Tests.{ne-eqb}
 use Rattle.documents.specs.Terms.{one, Term}
 use Rattle.documents.proofs.Lists.{never}
 use Rattle.trees.specs.Trees.{Tree, orOne, orMoved, further, nodesOf, depthOf, reachOf}
@@ -17,13 +17,13 @@ use Rattle.links.specs.declared.find.Found.the-variants.{Key, Missing}
 use Rattle.links.specs.Links.{capped, depthIn, noteOf, nodesIn, reachIn}
 use Rattle.links.specs.Bodies.{bodyEnd, keyPlace, placeBehind, foundAt}
 use Rattle.links.specs.Nodewise.{seenAt}
-use Rattle.links.specs.Standing.{entryAt, Scene, root, Stands}
-use Rattle.links.specs.Sequences.{treeAt, Sequenced, Bodied}
+use Rattle.links.specs.Standing.{entryAt, root, Stands}
+use Rattle.links.specs.Sequences.{treeAt, Sequenced}
 use Rattle.links.proofs.Links.{note-nodes, note-reach}
-use Rattle.links.proofs.Keyed.{KeyAt, key-at, NoKey, key-missing, body-at, behind-low}
+use Rattle.links.proofs.Keyed.{KeyAt, key-at, key-missing, body-at}
 use Rattle.measurer.specs.declared.Span.the-variants as span
-use Rattle.measurer.specs.Measuring.{Kept, near, Sequence, Measure, Measures, Noted, Memo, pushEnd, nodesFor, depthFor, reachFor, Free, Meets, MetAs, Frees}
-use Rattle.measurer.proofs.Kept.{kept-none, kept-then, kept-wide, kept-set, set-here, set-there, scene-kept}
+use Rattle.measurer.specs.Measuring.{Kept, near, Sequence, Measure, Noted, Memo, pushEnd, nodesFor, depthFor, reachFor, Free, Frees}
+use Rattle.measurer.proofs.Kept.{kept-none, kept-then, kept-set, set-here, set-there}
 use Rattle.measurer.proofs.Stacking.{stands-deep}
 use Rattle.measurer.proofs.Standing.{stands-kept, root-in}
 use Rattle.measurer.proofs.Memos.{memo-at, memos-note, seen-still}

@@ -1,26 +1,26 @@
 -- The bodies of a PUSHI that were measured: found by their keys, and noted one at a time.
-use mathlib.Core.Path.{_≡_, refl, sym, ap, _∙_}
+use mathlib.Core.Path.{_≡_, refl, _∙_}
 use mathlib.Core.Logic.{_⊎_, inl, inr}
-use Prim.Native.Nat.{ℕ, zero, suc, _+_, _-_, _*_, _≤_, _<_}
+use Prim.Native.Nat.{ℕ, zero, suc, _+_, _-_, _≤_, _<_}
 use native.Mathlib.Omega.{arith}
-use mathlib.Core.Bool.{Bool, true, false, not, cond}
+use mathlib.Core.Bool.{Bool, true, false, cond}
 use mathlib.Core.Option.{Option, none, some}
-use mathlib.Core.List.{List, [], _∷_}
+use mathlib.Core.List.{List}
 use lib.Dec.{eqb}
 use lib.ListN.{length, getD, set, drop, length-set}
-use borrow.Author.Tests.{eq-eqb, eqb-true, eqb-false, ne-eqb}
+use borrow.Author.Tests.{eq-eqb}
 use Rattle.documents.specs.Terms.{one}
 use Rattle.documents.proofs.Lists.{never}
-use Rattle.trees.specs.Trees.{Tree, More, nodesOf, reachOf}
+use Rattle.trees.specs.Trees.{nodesOf, reachOf}
 use Rattle.links.specs.Links.{noteOf}
 use Rattle.links.specs.Bodies.{bodyEnd, Readable, keyPlace, placeBehind}
 use Rattle.links.specs.Nodewise.{seenAt}
-use Rattle.links.specs.Standing.{entryAt, Spot, root, held, Stands}
-use Rattle.links.specs.Sequences.{treeAt, Bodied, keysAt, treesAt}
-use Rattle.links.proofs.Keyed.{KeyAt, key-at, keys-apart, behind-low}
+use Rattle.links.specs.Standing.{entryAt, root, held, Stands}
+use Rattle.links.specs.Sequences.{treeAt, keysAt, treesAt}
+use Rattle.links.proofs.Keyed.{key-at, keys-apart, behind-low}
 use Rattle.measurer.specs.Linking.{forgotten}
-use Rattle.measurer.specs.Measuring.{Kept, Noted, Memo, Memos}
-use Rattle.measurer.proofs.Kept.{kept-none, kept-then, kept-set, set-here, set-there}
+use Rattle.measurer.specs.Measuring.{Kept, Memo, Memos}
+use Rattle.measurer.proofs.Kept.{kept-none, kept-then, kept-set, set-here}
 use Rattle.measurer.proofs.Standing.{stands-kept}
 
 module _ (code subject entries : List ℕ) where

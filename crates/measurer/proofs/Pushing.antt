@@ -1,21 +1,20 @@
 -- A PUSHIMM or PUSHI, from the walk of its entry.
-use mathlib.Core.Path.{_≡_, refl, sym, ap, ap₂, _∙_, fun-ext}
+use mathlib.Core.Path.{_≡_, refl, ap, ap₂, _∙_}
 use mathlib.Core.Logic.{_⊎_, inl, inr}
-use Prim.Native.Nat.{ℕ, zero, suc, _+_, _-_, _*_, _/_, _≤_, _<_, max}
+use Prim.Native.Nat.{ℕ, suc, _+_, _-_, _*_, _/_, _≤_, _<_, max}
 use native.Mathlib.Omega.{arith}
 use mathlib.Core.Bool.{Bool, true, false, cond}
-use mathlib.Core.Option.{Option, none, some}
-use mathlib.Core.List.{List, [], _∷_}
+use mathlib.Core.Option.{none}
+use mathlib.Core.List.{List}
 use lib.Dec.{eqb, ltb}
 use lib.ListN.{length, getD, drop}
 use borrow.Author.Tests.{eq-eqb, ne-eqb}
-use Rattle.documents.specs.Lists.{assoc, pairlists}
 use Rattle.documents.specs.Terms.{Sort, Tm, Var, Sym, Meta, Abst, Nil, Cons, Term}
 use Rattle.documents.specs.Tables.{nodes, depth}
-use Rattle.trees.specs.Trees.{nodesOf, depthOf, reachOf, spreadNodes, spreadDepth, spreadReach, Whole, Pushed}
+use Rattle.trees.specs.Trees.{nodesOf, depthOf, reachOf, spreadNodes, spreadDepth, spreadReach}
 use Rattle.links.specs.Links.{capped}
 use Rattle.links.specs.Bodies.{Readable, placeBehind}
-use Rattle.links.specs.Standing.{entryPlace, entryAt, Scene, Named, Seen, held, Stands}
+use Rattle.links.specs.Standing.{entryPlace, entryAt, held}
 use Rattle.links.specs.Sequences.{Bodied, keysAt, treesAt}
 use Rattle.links.proofs.Entered.{entered}
 use Rattle.links.proofs.Keyed.{bodied-readable, behind-low}
@@ -23,9 +22,9 @@ use Rattle.documents.proofs.Nodes.{nodes-positive}
 use Rattle.measurer.specs.declared.Span.{Span}
 use Rattle.measurer.specs.declared.Span.the-variants as span
 use Rattle.measurer.specs.Linking.{placeNext, forgotten}
-use Rattle.measurer.specs.Measuring.{Kept, near, Memos, Walked, Push, Pushing, PushedAs, Pushes, pushTree, pushEnd, nodesFor, depthFor, reachFor, Spreading, Spanning, SpreadAs, Spreads}
+use Rattle.measurer.specs.Measuring.{Kept, Memos, Walked, Push, PushedAs, Pushes, pushTree, pushEnd, nodesFor, depthFor, reachFor, Spreading, SpreadAs, Spreads}
 use Rattle.measurer.proofs.Linking.{next-whole, next-push}
-use Rattle.measurer.proofs.Kept.{kept-none, kept-then, kept-wide, scene-kept}
+use Rattle.measurer.proofs.Kept.{kept-then, scene-kept}
 use Rattle.measurer.proofs.Memos.{memos-none}
 use Rattle.measurer.proofs.Standing.{stands-kept}
 

@@ -1,15 +1,16 @@
 -- A stack of trees that stand, the newest first, each one's link naming the root of the one below it.
 use mathlib.Core.Path.{_≡_, refl, sym, ap, ap₂, _∙_}
-use Prim.Native.Nat.{ℕ, zero, suc, _+_, _-_, _*_, _≤_, _<_, max, min}
+use Prim.Native.Nat.{ℕ, zero, suc, _-_, _≤_, _<_, max}
 use native.Mathlib.Omega.{arith}
 use native.Mathlib.Nat.{le-of-suc-le-suc, not-suc-le-zero}
 use mathlib.Core.List.{List, [], _∷_}
-use lib.ListN.{length, getD, drop}
+use lib.ListN.{length, getD}
 use Rattle.documents.specs.Terms.{one, many}
-use Rattle.trees.specs.Trees.{Tree, Cell, Block, Bound, Whole, Pushed, Leaf, More, count, taken, left, greatest, depthOf}
+use Rattle.trees.specs.Trees.{Tree, Cell, Block, Bound, Whole, Pushed, More, count, taken, left, greatest, depthOf}
 use Rattle.links.specs.Links.{beforeIn, depthIn, capped}
-use Rattle.links.specs.Standing.{entryAt, back, Spot, root, last, Stands}
+use Rattle.links.specs.Standing.{entryAt, back, root, last, Stands}
 use Rattle.measurer.specs.Linking.{deepestBack}
+use Rattle.measurer.proofs.Linking.{max-assoc}
 use Rattle.measurer.proofs.Standing.{stands-kept, root-in}
 
 capped-max : (x y : ℕ) → capped (max x y) ≡ max (capped x) (capped y)
@@ -17,9 +18,6 @@ capped-max x y = omega arith
 
 capped-twice : (x : ℕ) → capped (capped x) ≡ capped x
 capped-twice x = omega arith
-
-max-assoc : (a b c : ℕ) → max (max a b) c ≡ max a (max b c)
-max-assoc a b c = omega arith
 
 max-comm : (x y : ℕ) → max x y ≡ max y x
 max-comm x y = omega arith

@@ -1,22 +1,21 @@
 -- A tree stands as long as the words between its bounds are as they were, and within wider bounds too.
-use mathlib.Core.Path.{_≡_, refl, sym, ap, ap₂, _∙_, fun-ext}
+use mathlib.Core.Path.{_≡_, refl, ap, _∙_, fun-ext}
 use mathlib.Core.Logic.{_⊎_, inl, inr}
-use Prim.Native.Nat.{ℕ, zero, suc, _+_, _-_, _*_, _/_, _≤_, _<_}
+use Prim.Native.Nat.{ℕ, zero, suc, _+_, _-_, _/_, _≤_, _<_}
 use native.Mathlib.Omega.{arith}
 use mathlib.Core.Bool.{Bool, true, false, _&&_, cond}
 use mathlib.Core.Option.{Option, none, some}
 use mathlib.Core.List.{List, [], _∷_}
 use lib.Dec.{eqb}
-use lib.ListN.{length, getD, drop}
+use lib.ListN.{getD, drop}
 use Rattle.documents.specs.Terms.{Sort, one, many}
 use Rattle.documents.specs.Tables.{nodes}
-use Rattle.documents.specs.Instructions.{opCELL, opADBMAL, opPUSHVAR, opPUSHIMM, opPUSHI}
 use Rattle.documents.proofs.Lists.{never}
 use Rattle.trees.specs.Trees.{Tree, Cell, Block, Bound, Whole, Pushed, Leaf, More, count, nodesOf, reachOf}
 use Rattle.links.specs.Links.{beforeIn, overIn, noteOf}
 use Rattle.links.specs.Bodies.{bodyEnd, keyPlace}
 use Rattle.links.specs.Nodewise.{total, seenAt, nodeSeen}
-use Rattle.links.specs.Standing.{entryPlace, entryAt, back, Spot, root, last, held, Rooted, Named, Seen, Behind, Body, Stands}
+use Rattle.links.specs.Standing.{entryPlace, entryAt, back, Spot, root, last, held, Rooted, Named, Seen, Stands}
 
 module _ (code subject entries places work work′ : List ℕ) (lo hi lo′ hi′ : ℕ)
     (agree : (i : ℕ) → lo ≤ i → i < hi → getD work′ i 0 ≡ getD work i 0) (wide : lo′ ≤ lo) (far : hi ≤ hi′) where

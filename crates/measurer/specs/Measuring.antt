@@ -9,13 +9,13 @@ use mathlib.Core.List.{List}
 use lib.Dec.{eqb}
 use lib.ListN.{length, getD, drop}
 use Rattle.documents.specs.Lists.{assoc, pairlists}
-use Rattle.documents.specs.Terms.{one, Term}
+use Rattle.documents.specs.Terms.{one}
 use Rattle.documents.specs.Instructions.{opPUSHIMM, opPUSHI}
-use Rattle.trees.specs.Trees.{Tree, Whole, Pushed, count, orOne, orMoved, spreadNodes, spreadDepth, spreadReach, nodesOf, depthOf, reachOf}
+use Rattle.trees.specs.Trees.{Tree, Whole, Pushed, orOne, orMoved, spreadNodes, spreadDepth, spreadReach, nodesOf, depthOf, reachOf}
 use Rattle.links.specs.Links.{capped, noteOf}
 use Rattle.links.specs.Bodies.{bodyEnd, keyPlace, placeBehind}
 use Rattle.links.specs.Nodewise.{seenAt}
-use Rattle.links.specs.Standing.{entryPlace, entryAt, Scene, root, held, Rooted, Named, Behind, Seen, Stands}
+use Rattle.links.specs.Standing.{entryPlace, entryAt, Scene, root, held, Named, Seen, Stands}
 use Rattle.links.specs.Sequences.{treeAt, Sequenced, Bodied, keysAt, treesAt}
 use Rattle.measurer.specs.Linking.{placeNext}
 use Rattle.measurer.specs.declared.Measured.{Measured}

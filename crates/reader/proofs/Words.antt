@@ -7,7 +7,7 @@ use native.Mathlib.Nat.{add-zero, zero-add, sub-zero, add-assoc}
 use native.Mathlib.Numerals.{add-one, add-two, add-three}
 use native.Mathlib.Omega.{arith}
 use lib.Dec.{leb}
-use lib.ListN.{length, getD, take, drop, set, length-drop, length-take}
+use lib.ListN.{length, getD, drop, set, length-drop, length-take}
 use lib.Seq.{sets, drop-cons, getD-drop}
 use borrow.Author.Tests.{le-leb, lt-leb}
 use Rattle.documents.specs.Calls.{bigEndian, wordsOf}

@@ -1,6 +1,6 @@
 -- The walk of a good subject that notes places. A level is a word: the terms owed there x 65,536 + the place of their roots. Levels stand in a list, the
 -- innermost first; one without terms is not kept.
-use mathlib.Core.Path.{_≡_, refl, sym, ap, ap₂, _∙_}
+use mathlib.Core.Path.{_≡_, refl, sym, ap, _∙_}
 use Prim.Native.Nat.{ℕ, zero, suc, _+_, _-_, _*_, _/_, _%_, _≤_, _<_, max}
 use native.Mathlib.Nat.{add-zero}
 use native.Mathlib.Numerals.{add-one}
@@ -9,12 +9,12 @@ use mathlib.Core.Bool.{Bool, true, false, _&&_, cond, and-false}
 use mathlib.Core.List.{List, [], _∷_, _++_, append-assoc, append-nil}
 use lib.Dec.{eqb, leb, ltb, leb·suc-suc}
 use lib.ListN.{length, take, drop, getD, set, replicate, length-set}
-use lib.Seq.{length-take-le, getD-set-same, getD-set-other, take-suc-set, append-snoc}
+use lib.Seq.{length-take-le, getD-set-same, take-suc-set}
 use borrow.Author.Tests.{leb-true, leb-false, le-leb, lt-leb, lt-ltb, le-ltb, ltb-true, ltb-false, eqb-true, eqb-false, eq-eqb, ne-eqb}
-use Rattle.documents.specs.Limits.{planLimit, depthLimit}
+use Rattle.documents.specs.Limits.{planLimit}
 use Rattle.documents.specs.Lists.{isEmpty}
-use Rattle.documents.specs.Terms.{many, Var, Sym, Meta, Abst, Nil, Cons, Term, Terms, len}
-use Rattle.documents.specs.Tables.{termsIn, nodes, depth}
+use Rattle.documents.specs.Terms.{many, Nil, Cons, Term, Terms}
+use Rattle.documents.specs.Tables.{termsIn, depth}
 use Rattle.documents.specs.Rules.{metas}
 use Rattle.documents.specs.Numbers.{tableIn, subjectIn}
 use Rattle.documents.proofs.Lists.{never, on, T-of, of-and, and-assoc, and-true}
@@ -22,7 +22,7 @@ use Rattle.tables.specs.declared.accept.Sized.the-variants.{Nodes, Refused}
 use Rattle.tables.specs.Answers.{sized, isGood, inLayout}
 use Rattle.tables.specs.Parts.{held, firstTerms, terms, front, Begins}
 use Rattle.tables.proofs.Parts.{only, headed, Shape, Opened, opened, front-term, begins-less, no-terms}
-use Rattle.tables.proofs.Walks.{Walk, walk-from, walk-on, ended}
+use Rattle.tables.proofs.Walks.{Walk, walk-from, walk-on}
 use Rattle.tables.proofs.Sides.{metas-front, metas-here, metas-behind}
 use Rattle.tables.proofs.Accepted.{layout-variable, layout-applied, layout-abstraction, layout-other, holds, good-start, good-node, good-outside, good-more, good-odd, good-end, listed, listed-set, depth-headed, leb-max, first-arguments, drop-arguments, depth-positive, good-begins, accept-long, accept-bad, accept-deep, accept-good, accepted-table, subject-refused, subject-metavariable, subject-plain}
 use Rattle.documents.specs.declared.Refusal.{Refusal}

@@ -5,7 +5,7 @@ use mathlib.Core.Option.{Option, none, some}
 use mathlib.Core.List.{List}
 use lib.Dec.{eqb, leb}
 use Rattle.documents.specs.Limits.{argumentLimit, kindStep}
-use Rattle.documents.specs.Terms.{Term, Terms}
+use Rattle.documents.specs.Terms.{Term}
 use Rattle.documents.specs.Tables.{Kind, variable, symbol, metavariable, abstraction, other, kindOf, termIn, nodes}
 use Rattle.documents.specs.Numbers.{Answer, answered, refused}
 use Rattle.tables.specs.declared.accept.Sized.{Sized}

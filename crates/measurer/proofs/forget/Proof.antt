@@ -1,12 +1,8 @@
 use native.Mathlib.Omega.{arith}
-use mathlib.Core.Path.{refl, sym, ap, _∙_}
-use Rattle.links.proofs.Links.{before-low}
-use Rattle.measurer.proofs.Linking.{Backing, backing-from, backing-on, backing-end, link-pushvar, link-adbmal, link-cell, next-whole, next-push, further-none, further-some, Forgetting, forgetting-from, forgetting-in, forgetting-on, forgetting-end}
+use Rattle.measurer.proofs.Linking.{Forgetting, forgetting-from, forgetting-in, forgetting-on, forgetting-end}
 use borrow.Author.Needs.{needs}
 use Rattle.measurer.proofs.forget.Statement.{statement}
 use Rattle.measurer.proofs.forget.Tie as tie
-use Rattle.measurer.proofs.forget.Reads as reads
-use Rattle.measurer.proofs.forget.Lts as lts
 
 abbrev Inv-loop : tie.InvT-loop
 Inv-loop code bodies count work₀ at₀ left₀ work at left = Forgetting code work₀ bodies count work at left

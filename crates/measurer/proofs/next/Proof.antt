@@ -1,13 +1,8 @@
-use native.Mathlib.Omega.{arith}
-use mathlib.Core.Path.{refl, sym, ap, _∙_}
-use Rattle.links.proofs.Links.{before-low}
-use Rattle.measurer.proofs.Linking.{Backing, backing-from, backing-on, backing-end, link-pushvar, link-adbmal, link-cell, next-whole, next-push, further-none, further-some, Forgetting, forgetting-from, forgetting-in, forgetting-on, forgetting-end}
+use mathlib.Core.Path.{_∙_}
+use Rattle.measurer.proofs.Linking.{next-whole, next-push}
 use borrow.Author.Needs.{needs}
 use Rattle.measurer.proofs.next.Statement.{statement}
 use Rattle.measurer.proofs.next.Tie as tie
-use Rattle.measurer.proofs.next.Reads as reads
-use Rattle.measurer.proofs.next.Lts as lts
-use Rattle.links.proofs.find.behind.Reads as behind-reads
 
 pub next-spec : {M : Type 1} → statement M
 next-spec =

@@ -1,15 +1,10 @@
-use native.Mathlib.Omega.{arith}
 use Prim.Native.Nat.{ℕ}
 use lib.ListN.{set}
-use mathlib.Core.Path.{refl, sym, ap, _∙_}
+use mathlib.Core.Path.{ap, _∙_}
 use Rattle.measurer.proofs.Linking.{link-pushvar, link-adbmal, link-cell}
 use borrow.Author.Needs.{needs}
 use Rattle.measurer.proofs.put_link.Statement.{statement}
 use Rattle.measurer.proofs.put_link.Tie as tie
-use Rattle.measurer.proofs.put_link.Reads as reads
-use Rattle.measurer.proofs.put_link.Lts as lts
-use Rattle.links.proofs.link.link.Reads as link-reads
-use Rattle.measurer.proofs.put_over.Reads as put-over-reads
 
 pub put-link-spec : {M : Type 1} → statement M
 put-link-spec =

@@ -1,19 +1,12 @@
 use Prim.Native.Nat.{ℕ}
 use lib.ListN.{set}
 use native.Mathlib.Omega.{arith}
-use mathlib.Core.Path.{refl, sym, ap, _∙_}
+use mathlib.Core.Path.{ap}
 use Rattle.links.proofs.Links.{before-low}
-use Rattle.measurer.proofs.Linking.{Backing, backing-from, backing-on, backing-end, link-pushvar, link-adbmal, link-cell, next-whole, next-push, further-none, further-some, Forgetting, forgetting-from, forgetting-in, forgetting-on, forgetting-end}
+use Rattle.measurer.proofs.Linking.{Backing, backing-on, backing-end}
 use borrow.Author.Needs.{needs}
 use Rattle.measurer.proofs.put_over.Statement.{statement}
 use Rattle.measurer.proofs.put_over.Tie as tie
-use Rattle.measurer.proofs.put_over.Reads as reads
-use Rattle.measurer.proofs.put_over.Lts as lts
-use Rattle.links.proofs.link.before.Reads as before-reads
-use Rattle.links.proofs.link.depth.Reads as depth-reads
-use Rattle.links.proofs.link.link.Reads as link-reads
-use Rattle.measurer.proofs.cap.Reads as cap-reads
-use Rattle.measurer.proofs.greater.Reads as greater-reads
 
 abbrev Inv-loop : tie.InvT-loop
 Inv-loop at work last count left₀ root₀ deepest₀ left root deepest = Backing work count last left root deepest

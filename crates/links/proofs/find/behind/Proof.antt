@@ -1,12 +1,8 @@
 use native.Mathlib.Omega.{arith}
-use mathlib.Core.Path.{sym, ap}
-use Rattle.links.specs.Bodies.{foundAt}
 use Rattle.links.proofs.Bodies.{Passing, passing-from, passing-in, passing-on, passing-end}
 use borrow.Author.Needs.{needs}
 use Rattle.links.proofs.find.behind.Statement.{statement}
 use Rattle.links.proofs.find.behind.Tie as tie
-use Rattle.links.proofs.find.behind.Reads as reads
-use Rattle.links.proofs.find.behind.Lts as lts
 
 abbrev Inv-loop : tie.InvT-loop
 Inv-loop code bodies count at₀ left₀ at left = Passing code bodies count at left

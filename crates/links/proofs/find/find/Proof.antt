@@ -5,8 +5,6 @@ use Rattle.links.proofs.Bodies.{Finding, finding-from, finding-in, find
 use borrow.Author.Needs.{needs}
 use Rattle.links.proofs.find.find.Statement.{statement}
 use Rattle.links.proofs.find.find.Tie as tie
-use Rattle.links.proofs.find.find.Reads as reads
-use Rattle.links.proofs.find.find.Lts as lts
 
 abbrev Inv-loop : tie.InvT-loop
 Inv-loop code bodies count index at₀ left₀ at left = Finding code bodies count index at left

@@ -2,8 +2,6 @@ use Rattle.links.proofs.Links.{before-is}
 use borrow.Author.Needs.{needs}
 use Rattle.links.proofs.link.before.Statement.{statement}
 use Rattle.links.proofs.link.before.Tie as tie
-use Rattle.links.proofs.link.before.Reads as reads
-use Rattle.links.proofs.link.before.Lts as lts
 
 -- src/link.rt:20:5
 cast-result : tie.Need-cast-result

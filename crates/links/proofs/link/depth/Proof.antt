@@ -2,8 +2,6 @@ use Rattle.links.proofs.Links.{depth-is}
 use borrow.Author.Needs.{needs}
 use Rattle.links.proofs.link.depth.Statement.{statement}
 use Rattle.links.proofs.link.depth.Tie as tie
-use Rattle.links.proofs.link.depth.Reads as reads
-use Rattle.links.proofs.link.depth.Lts as lts
 
 -- src/link.rt:29:1
 returns : tie.Need-returns

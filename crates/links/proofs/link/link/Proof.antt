@@ -2,8 +2,6 @@ use Rattle.links.proofs.Links.{link-is}
 use borrow.Author.Needs.{needs}
 use Rattle.links.proofs.link.link.Statement.{statement}
 use Rattle.links.proofs.link.link.Tie as tie
-use Rattle.links.proofs.link.link.Reads as reads
-use Rattle.links.proofs.link.link.Lts as lts
 
 -- src/link.rt:14:6
 mul-result : tie.Need-mul-result

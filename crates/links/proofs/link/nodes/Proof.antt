@@ -2,8 +2,6 @@ use Rattle.links.proofs.Links.{nodes-is}
 use borrow.Author.Needs.{needs}
 use Rattle.links.proofs.link.nodes.Statement.{statement}
 use Rattle.links.proofs.link.nodes.Tie as tie
-use Rattle.links.proofs.link.nodes.Reads as reads
-use Rattle.links.proofs.link.nodes.Lts as lts
 
 -- src/link.rt:50:5
 cast-result : tie.Need-cast-result

@@ -2,8 +2,6 @@ use Rattle.links.proofs.Links.{note-is}
 use borrow.Author.Needs.{needs}
 use Rattle.links.proofs.link.note.Statement.{statement}
 use Rattle.links.proofs.link.note.Tie as tie
-use Rattle.links.proofs.link.note.Reads as reads
-use Rattle.links.proofs.link.note.Lts as lts
 
 -- src/link.rt:44:5
 mul-result : tie.Need-mul-result

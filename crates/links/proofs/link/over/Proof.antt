@@ -2,8 +2,6 @@ use Rattle.links.proofs.Links.{over-is}
 use borrow.Author.Needs.{needs}
 use Rattle.links.proofs.link.over.Statement.{statement}
 use Rattle.links.proofs.link.over.Tie as tie
-use Rattle.links.proofs.link.over.Reads as reads
-use Rattle.links.proofs.link.over.Lts as lts
 
 -- src/link.rt:26:5
 cast-result : tie.Need-cast-result

@@ -1,9 +1,6 @@
 use Rattle.links.proofs.Links.{reach-is}
-use borrow.Author.Needs.{needs}
 use Rattle.links.proofs.link.reach.Statement.{statement}
 use Rattle.links.proofs.link.reach.Tie as tie
-use Rattle.links.proofs.link.reach.Reads as reads
-use Rattle.links.proofs.link.reach.Lts as lts
 
 -- src/link.rt:53:1
 returns : tie.Need-returns

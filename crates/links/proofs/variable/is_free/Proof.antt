@@ -1,10 +1,7 @@
 use native.Mathlib.Omega.{arith}
 use Rattle.links.proofs.Variables.{no-variable, variable-free}
-use borrow.Author.Needs.{needs}
 use Rattle.links.proofs.variable.is_free.Statement.{statement}
 use Rattle.links.proofs.variable.is_free.Tie as tie
-use Rattle.links.proofs.variable.is_free.Reads as reads
-use Rattle.links.proofs.variable.is_free.Lts as lts
 
 -- src/variable.rt:13:9
 returns : tie.Need-returns
