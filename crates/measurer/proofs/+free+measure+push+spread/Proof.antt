@@ -1,3 +1,5 @@
+-- The measuring walk: a sequence (`Growing`), an instruction that pushes (`Pushing`), its entry (`Spreading`) and a variable of it (`Meeting`) call
+-- one another, the words of the code falling.
 use Rattle.links.specs.Standing.{entryPlace}
 use Rattle.tables.proofs.Parts.{from-drop}
 use Rattle.measurer.proofs.Walked.{root-room, not-below, few-levels, next-words, free-here, large-here, meets-here, larger-here, met-on, pass-on, end-small}

@@ -1,3 +1,4 @@
+-- `measurer::forget`: the keys that were passed are cleared.
 use native.Mathlib.Omega.{arith}
 use Rattle.measurer.proofs.Linking.{Forgetting, forgetting-from, forgetting-in, forgetting-on, forgetting-end}
 use borrow.Author.Needs.{needs}

@@ -1,3 +1,4 @@
+-- `measurer::next`: behind the entry of a PUSHIMM, behind the bodies of a PUSHI.
 use mathlib.Core.Path.{_∙_}
 use Rattle.measurer.proofs.Linking.{next-whole, next-push}
 use borrow.Author.Needs.{needs}

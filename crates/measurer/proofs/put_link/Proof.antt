@@ -1,3 +1,4 @@
+-- `measurer::put_link`: by its opcode, a leaf or over what it took.
 use Prim.Native.Nat.{ℕ}
 use lib.ListN.{set}
 use mathlib.Core.Path.{ap, _∙_}

@@ -1,3 +1,4 @@
+-- `measurer::put_over`: going back through the links of the trees that were taken, the depth of the deepest so far.
 use Prim.Native.Nat.{ℕ}
 use lib.ListN.{set}
 use native.Mathlib.Omega.{arith}

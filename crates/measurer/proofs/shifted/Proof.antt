@@ -1,3 +1,4 @@
+-- `measurer::shifted`: what reaches nothing does so under abstractions too.
 use Rattle.measurer.proofs.Linking.{further-some}
 use borrow.Author.Needs.{needs}
 use Rattle.measurer.proofs.shifted.Statement.{statement}

@@ -1,10 +1,7 @@
+-- `link::reach`: the second of them.
 use Rattle.links.proofs.Links.{reach-is}
 use Rattle.links.proofs.link.reach.Statement.{statement}
 use Rattle.links.proofs.link.reach.Tie as tie
 
--- src/link.rt:53:1
-returns : tie.Need-returns
-returns c = reach-is _
-
 pub reach-spec : {M : Type 1} → statement M
-reach-spec = tie.close (tie.spec returns)
+reach-spec = tie.close (tie.spec (λ c. reach-is _))
