@@ -166,21 +166,21 @@ module _ {code subject entries work : List ℕ} (o : List ℕ) {words l offset z
       → Writes (TreeAt code subject entries work words l offset (nstack offset l o) z) d e r end
   bound-written q w = writes-exactly (λ ws t. bound-as ws t ∙ ap (λ y. y ∷ 0 ∷ []) (sym q)) w
 
--- ---- The body of a variable that is free in an entry
+-- ---- The body of a variable that is free in an entry, run with the abstractions that were crossed there
 
 module _ {code subject entries work d o : List ℕ} {end offset l words z x n : ℕ} (y : Ready code subject entries work d o end offset l words)
-    (m : Met code work z x n) {key : ℕ} (k : keyPlace code (z + 4) (getD code (z + 3) 0) (x - n) ≡ some key) where
+    (m : Met code work z x n) {key : ℕ} (k : keyPlace code (z + 4) (getD code (z + 3) 0) (x - n) ≡ some key) {lifted : ℕ} (up : lifted ≡ offset + n) where
   pub body-trees : (ws : List ℕ) → FreeAt code subject entries work words l offset (nstack offset l o) z x n ws
-      → TreesAt code subject entries work (getD code (key + 1) 0) l (offset + n) (nstack (offset + n) l o) 1 (getD work key 0) ws
-  body-trees = free-body m key k (nstack (offset + n) l o) (nstack-raised offset n l o (y .low))
+      → TreesAt code subject entries work (getD code (key + 1) 0) l lifted (nstack lifted l o) 1 (getD work key 0) ws
+  body-trees ws t = rw up (free-body m key k (nstack (offset + n) l o) (nstack-raised offset n l o (y .low)) ws t)
 
   pub body-tree : (ws : List ℕ) → FreeAt code subject entries work words l offset (nstack offset l o) z x n ws
-      → TreeAt code subject entries work (getD code (key + 1) 0) l (offset + n) (nstack (offset + n) l o) (getD work key 0) ws
+      → TreeAt code subject entries work (getD code (key + 1) 0) l lifted (nstack lifted l o) (getD work key 0) ws
   body-tree ws t = tree-only ws (body-trees ws t)
 
   pub body-ready : {ws : List ℕ} → FreeAt code subject entries work words l offset (nstack offset l o) z x n ws
-      → Ready code subject entries work d o end (offset + n) l (getD code (key + 1) 0)
-  body-ready t = ready-body y n (getD code (key + 1) 0) (m .shallow) (free-falls m key k t .1)
+      → Ready code subject entries work d o end lifted l (getD code (key + 1) 0)
+  body-ready t = rw up (ready-body y n (getD code (key + 1) 0) (m .shallow) (free-falls m key k t .1))
 
 -- ---- From tree to tree
 
