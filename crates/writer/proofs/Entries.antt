@@ -7,7 +7,7 @@ use mathlib.Core.Option.{Option, none}
 use mathlib.Core.List.{List, [], _∷_, _++_, append-assoc, append-nil}
 use lib.Dec.{eqb}
 use lib.ListN.{length, getD, take, drop, length-drop, length-append}
-use lib.Seq.{take-at, getD-drop}
+use lib.Seq.{take-at, length-take-le, getD-take, getD-drop}
 use borrow.Author.Tests.{ne-eqb, eqb-true}
 use Rattle.documents.specs.Lists.{assoc, pairlists}
 use Rattle.documents.specs.Terms.{Term, one, many}
@@ -23,7 +23,7 @@ use Rattle.links.specs.Nodewise.{isFree, total, insideOf, nodeWords, seenAt, no
 use Rattle.links.specs.Standing.{entryPlace, entryAt, Scene, root}
 use Rattle.links.proofs.Gathered.{gathered, total-is}
 use Rattle.links.proofs.Entered.{entered}
-use Rattle.writer.specs.Wanted.{movesNothing, Standing, TreeAt, FreeAt, Met}
+use Rattle.writer.specs.Wanted.{movesNothing, Standing, TreeAt, EntryPart, FreeAt, Met}
 use Rattle.writer.proofs.Writings.{Splits}
 use Rattle.writer.proofs.Spreading.{spread-is, spread-same, total-none, total-more, total-each, Below, node-below}
 
@@ -192,89 +192,131 @@ below-so : (a : Term) (hs laterPlaces : List ℕ) (r d m k h : ℕ) → hs ≡ p
     → Below r h
 below-so a hs laterPlaces r d m k h e f g deep few = rw (← g, e, f) (node-below d m a laterPlaces k deep few)
 
-module _ {code subject entries work : List ℕ} (sc : Scene code subject entries work) (e : ℕ) (there : e < length entries) (k : ℕ)
-    (few : k < nodes (entryAt subject entries e)) (at first : ℕ) (first-is : first ≡ entryPlace entries e) (at-is : at ≡ first + 2 * k) where
-  abbrev rootPlace : ℕ
-  rootPlace = getD work (4096 + first / 2) 0
+-- the entry e as a part of the subject, and where the places of its nodes begin
+pub record Parted (subject entries part : List ℕ) (places e : ℕ) : Type 0 where
+  pub there : e < length entries
+  pub words : part ≡ take (2 * nodes (entryAt subject entries e)) (drop (entryPlace entries e) subject)
+  pub places-are : places ≡ 4096 + entryPlace entries e / 2
 
-  abbrev herePlace : ℕ
-  herePlace = getD work (4096 + at / 2) 0
+pub named-parted : {code subject entries work part : List ℕ} {z places : ℕ} → NamedAt code subject entries work z → EntryPart code z part places subject entries work
+    → Parted subject entries part places (getD code (z + 1) 0)
+named-parted {code = code} {subject = subject} {entries = entries} {work = work} {z = z} n p =
+    let i = n .end in
+    let size : getD work (z + 1) 0 - entryPlace entries (getD code (z + 1) 0) ≡ 2 * nodes (entryAt subject entries (getD code (z + 1) 0)) = omega arith in
+    record {
+      there = n .there;
+      words = p .part-is ∙ ap (λ m. take m (drop (entryPlace entries (getD code (z + 1) 0)) subject)) size;
+      places-are = p .places-are;
+    }
 
-  long-words : 2 * nodes (entryAt subject entries e) ≤ length (drop (entryPlace entries e) subject)
-  long-words = let w = entered sc e there .within in rw (length-drop (entryPlace entries e) subject) (omega arith)
+module _ {code subject entries work : List ℕ} (sc : Scene code subject entries work) {part : List ℕ} {places e : ℕ} (d : Parted subject entries part places e) where
+  abbrev size : ℕ
+  size = nodes (entryAt subject entries e)
 
-  long-places : nodes (entryAt subject entries e) ≤ length (drop (entryPlace entries e / 2) (drop 4096 work))
+  long-words : 2 * size ≤ length (drop (entryPlace entries e) subject)
+  long-words = let w = entered sc e (d .there) .within in rw (length-drop (entryPlace entries e) subject) (omega arith)
+
+  long-places : size ≤ length (drop (entryPlace entries e / 2) (drop 4096 work))
   long-places =
-      let n = entered sc e there in
+      let n = entered sc e (d .there) in
       let z = ap length (n .placed-so) ∙ length-append (placesOf (n .level) (n .above) (entryAt subject entries e)) (n .laterPlaces) in
       let y = length-places (n .level) (n .above) (entryAt subject entries e) in
       omega arith
 
-  word : getD (drop (entryPlace entries e) subject) (2 * k) 0 ≡ getD subject at 0
-  word = getD-drop (entryPlace entries e) subject (2 * k) 0 ∙ ap (λ i. getD subject i 0) (omega arith)
+  pub parted-length : length part ≡ 2 * size
+  parted-length = ap length (d .words) ∙ length-take-le (2 * size) (drop (entryPlace entries e) subject) long-words
 
-  word₂ : getD (drop (entryPlace entries e) subject) (2 * k + 1) 0 ≡ getD subject (at + 1) 0
-  word₂ = getD-drop (entryPlace entries e) subject (2 * k + 1) 0 ∙ ap (λ i. getD subject i 0) (omega arith)
+  parted-places : places + size ≤ 8192
+  parted-places =
+      let w = entered sc e (d .there) .within in
+      let v = entered sc e (d .there) .even in
+      let f = sc .few in
+      let p = d .places-are in
+      omega arith
 
-  place-read : getD (drop (entryPlace entries e / 2) (drop 4096 work)) k 0 ≡ herePlace
-  place-read =
-      let v = entered sc e there .even in
-      getD-drop (entryPlace entries e / 2) (drop 4096 work) k 0 ∙ getD-drop 4096 work (entryPlace entries e / 2 + k) 0 ∙ ap (λ i. getD work i 0) (omega arith)
+  pub parted-root : places < 8192
+  parted-root =
+      let p = parted-places in
+      let h = depth-positive (entryAt subject entries e) in
+      let k = depth-nodes (entryAt subject entries e) in
+      omega arith
 
-  root-read : getD (drop 4096 work) (entryPlace entries e / 2) 0 ≡ rootPlace
-  root-read = getD-drop 4096 work (entryPlace entries e / 2) 0 ∙ ap (λ i. getD work (4096 + i / 2) 0) (sym first-is)
+  root-read : getD (drop 4096 work) (entryPlace entries e / 2) 0 ≡ getD work places 0
+  root-read = getD-drop 4096 work (entryPlace entries e / 2) 0 ∙ ap (λ i. getD work i 0) (sym (d .places-are))
 
-  pub node-within : at + 1 < length subject
-  node-within = let w = entered sc e there .within in omega arith
+  module _ {at k : ℕ} (at-is : at ≡ 2 * k) (few : k < size) where
+    abbrev rootPlace : ℕ
+    rootPlace = getD work places 0
 
-  pub place-below : Below rootPlace herePlace
-  place-below =
-      let n = entered sc e there in
-      let i = n .shallow in
-      let j = n .fewer in
-      below-so (entryAt subject entries e) (drop (entryPlace entries e / 2) (drop 4096 work)) (n .laterPlaces) rootPlace (n .level) (n .above) k herePlace (n .placed-so)
-      (sym root-read ∙ n .root) place-read (omega arith) few
+    abbrev herePlace : ℕ
+    herePlace = getD work (places + at / 2) 0
 
-  module _ {words l offset : ℕ} {nst : List ℕ} {z : ℕ} where
-    pub part-split : Splits (PartAt code subject entries work words l offset nst e z (suc k)) (PartAt code subject entries work words l offset nst e z k)
-        (NodeAt code subject entries work words l offset nst e z (getD subject at 0) (getD subject (at + 1) 0) (insideOf rootPlace herePlace))
-    part-split = record {
-      parts = λ ws p.
-          let g : ℕ → ℕ → ℕ → List ℕ =
-          nodeWords (assoc (pairlists (p .ks) (wordsOf (entryAt subject entries) (p .bodies)))) (p .D) offset nst (getD (drop 4096 work) (entryPlace entries e / 2) 0)
-          in
-          let n = long-words in
-          let m = long-places in (
-            _,
-            _,
-            p .these ∙ total-more _++_ [] g append-assoc (λ v. refl) append-nil k _ _ (omega arith) (omega arith),
-            record { D = p .D; ks = p .ks; bodies = p .bodies; standing = p .standing; these = refl },
-            record {
-              D = p .D;
-              ks = p .ks;
-              bodies = p .bodies;
-              standing = p .standing;
-              these = ap₂ (λ w c. g w c (getD (drop (entryPlace entries e / 2) (drop 4096 work)) k 0)) word word₂ ∙ rw (root-read, place-read);
-            },
-          );
-    }
+    word : getD (drop (entryPlace entries e) subject) (2 * k) 0 ≡ getD part at 0
+    word =
+        sym (getD-take (2 * size) (drop (entryPlace entries e) subject) (2 * k) 0 (omega arith))
+        ∙ ap₂ (λ (l : List ℕ) i. getD l i 0) (sym (d .words)) (sym at-is)
 
-    pub part-met : {ws : List ℕ} (j : ℕ) → PartAt code subject entries work words l offset nst e z j ws → isFree (getD subject at 0) (insideOf rootPlace herePlace) ≡ true
-        → Met code work z (getD subject at 0) (insideOf rootPlace herePlace)
-    part-met j p free = record {
-      free = free;
-      shallow = place-below .1;
-      seen =
-          let s = p .standing in
-          let g : ℕ → ℕ → ℕ → Bool =
-          nodeSeen (λ y. seenAt work (keyPlace code (z + 4) (count (p .bodies)) y)) (getD (drop 4096 work) (entryPlace entries e / 2) 0)
-          in
-          let h : g (getD subject at 0) (getD subject (at + 1) 0) herePlace ≡ true =
-          ap₂ (λ w c. g w c herePlace) (sym word) (sym word₂) ∙ ap (λ x. g (getD (drop (entryPlace entries e) subject) (2 * k) 0) (getD (drop (entryPlace entries e) subject) (2 * k + 1) 0) x) (sym place-read)
-          ∙ total-each g (nodes (entryAt subject entries e)) k _ _ long-words long-places few (s .stands .3)
-          in
-          rw (s .stands .2 .keys) (rw (root-read, free) at h);
-    }
+    word₂ : getD (drop (entryPlace entries e) subject) (2 * k + 1) 0 ≡ getD part (at + 1) 0
+    word₂ =
+        sym (getD-take (2 * size) (drop (entryPlace entries e) subject) (2 * k + 1) 0 (omega arith))
+        ∙ ap₂ (λ (l : List ℕ) i. getD l (i + 1) 0) (sym (d .words)) (sym at-is)
+
+    place-read : getD (drop (entryPlace entries e / 2) (drop 4096 work)) k 0 ≡ herePlace
+    place-read =
+        let p = d .places-are in
+        getD-drop (entryPlace entries e / 2) (drop 4096 work) k 0 ∙ getD-drop 4096 work (entryPlace entries e / 2 + k) 0 ∙ ap (λ i. getD work i 0) (omega arith)
+
+    pub node-within : (at + 1 < length part) × (places + at / 2 < 8192)
+    node-within = let n = parted-length in let p = parted-places in (omega arith, omega arith)
+
+    pub place-below : Below rootPlace herePlace
+    place-below =
+        let n = entered sc e (d .there) in
+        let i = n .shallow in
+        let j = n .fewer in
+        below-so (entryAt subject entries e) (drop (entryPlace entries e / 2) (drop 4096 work)) (n .laterPlaces) rootPlace (n .level) (n .above) k herePlace (n .placed-so)
+        (sym root-read ∙ n .root) place-read (omega arith) few
+
+    module _ {words l offset : ℕ} {nst : List ℕ} {z : ℕ} where
+      pub part-split : Splits (PartAt code subject entries work words l offset nst e z (suc k)) (PartAt code subject entries work words l offset nst e z k)
+          (NodeAt code subject entries work words l offset nst e z (getD part at 0) (getD part (at + 1) 0) (insideOf rootPlace herePlace))
+      part-split = record {
+        parts = λ ws p.
+            let g : ℕ → ℕ → ℕ → List ℕ =
+            nodeWords (assoc (pairlists (p .ks) (wordsOf (entryAt subject entries) (p .bodies)))) (p .D) offset nst (getD (drop 4096 work) (entryPlace entries e / 2) 0)
+            in
+            let n = long-words in
+            let m = long-places in (
+              _,
+              _,
+              p .these ∙ total-more _++_ [] g append-assoc (λ v. refl) append-nil k _ _ (omega arith) (omega arith),
+              record { D = p .D; ks = p .ks; bodies = p .bodies; standing = p .standing; these = refl },
+              record {
+                D = p .D;
+                ks = p .ks;
+                bodies = p .bodies;
+                standing = p .standing;
+                these = ap₂ (λ w c. g w c (getD (drop (entryPlace entries e / 2) (drop 4096 work)) k 0)) word word₂ ∙ rw (root-read, place-read);
+              },
+            );
+      }
+
+      pub part-met : {ws : List ℕ} (j : ℕ) → PartAt code subject entries work words l offset nst e z j ws → isFree (getD part at 0) (insideOf rootPlace herePlace) ≡ true
+          → Met code work z (getD part at 0) (insideOf rootPlace herePlace)
+      part-met j p free = record {
+        free = free;
+        shallow = place-below .1;
+        seen =
+            let s = p .standing in
+            let g : ℕ → ℕ → ℕ → Bool =
+            nodeSeen (λ y. seenAt work (keyPlace code (z + 4) (count (p .bodies)) y)) (getD (drop 4096 work) (entryPlace entries e / 2) 0)
+            in
+            let h : g (getD part at 0) (getD part (at + 1) 0) herePlace ≡ true =
+            ap₂ (λ w c. g w c herePlace) (sym word) (sym word₂) ∙ ap (λ x. g (getD (drop (entryPlace entries e) subject) (2 * k) 0) (getD (drop (entryPlace entries e) subject) (2 * k + 1) 0) x) (sym place-read)
+            ∙ total-each g size k _ _ long-words long-places few (s .stands .3)
+            in
+            rw (s .stands .2 .keys) (rw (root-read, free) at h);
+      }
 
 module _ {code subject entries work : List ℕ} {words l offset : ℕ} {nst : List ℕ} {e z w c n : ℕ} (ws : List ℕ) where
   pub node-free : isFree w n ≡ true → NodeAt code subject entries work words l offset nst e z w c n ws → FreeAt code subject entries work words l offset nst z w n ws

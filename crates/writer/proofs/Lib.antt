@@ -1,6 +1,7 @@
 pub mod Writings
 pub mod Opened
 pub mod Moves
+pub mod Nodes
 pub mod Spreading
 pub mod Rooting
 pub mod Entries

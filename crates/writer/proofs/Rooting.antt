@@ -96,6 +96,13 @@ module _ {code subject entries work : List ℕ} {words l offset : ℕ} {nst : Li
             },
           )
 
+  -- one tree
+  pub tree-only : {z : ℕ} (ws : List ℕ) → TreesAt code subject entries work words l offset nst 1 z ws → TreeAt code subject entries work words l offset nst z ws
+  tree-only {z = z} ws t =
+      let p = trees-split {n = 1} {z = z} (omega arith) .parts ws t in
+      let r = p .4 in
+      record { tree = r .tree; standing = r .standing; these = p .2 ∙ ap (λ (us : List ℕ). us ++ p .1) (trees-none (p .0) (omega arith) (p .3)) ∙ r .these }
+
   -- ---- A root
 
   pub tree-root : {z : ℕ} {ws : List ℕ} → TreeAt code subject entries work words l offset nst z ws → At code work z

@@ -1,17 +1,17 @@
 -- What the walk that writes a result is asked to write: the words of trees that stand in the code with their links.
 use mathlib.Core.Path.{_≡_}
-use Prim.Native.Nat.{ℕ, _+_, _-_, _*_, _≤_, _<_}
+use Prim.Native.Nat.{ℕ, _+_, _-_, _*_, _/_, _≤_, _<_}
 use mathlib.Core.Bool.{Bool, true, _&&_, cond}
 use mathlib.Core.List.{List}
 use lib.Dec.{eqb}
-use lib.ListN.{length, getD, drop}
+use lib.ListN.{length, getD, take, drop}
 use Rattle.documents.specs.Lists.{assoc, pairlists}
 use Rattle.documents.specs.Terms.{Sort, one, many}
-use Rattle.documents.specs.Instructions.{opPUSHIMM}
+use Rattle.documents.specs.Instructions.{opCELL, opPUSHIMM}
 use Rattle.trees.specs.Trees.{Tree, Pushed, count, orMovedWords, inOrder, wordsOf}
 use Rattle.links.specs.Bodies.{keyPlace}
 use Rattle.links.specs.Nodewise.{isFree, seenAt}
-use Rattle.links.specs.Standing.{entryAt, Scene, Safe, Spot, root, last, Stands}
+use Rattle.links.specs.Standing.{entryPlace, entryAt, Scene, Safe, Spot, root, last, Stands}
 
 -- The setting of the walk: OFFSET and `opened`, that holds OFFSET at each of l open LAMBDAs. A body's words are fewer than those around it, and it stands
 -- under fewer than 64 abstractions of its entry, so OFFSET stays small.
@@ -22,6 +22,16 @@ pub record Ready (code subject entries work result opened : List ℕ) (end offse
   pub long : length opened ≡ 64
   pub low : (i : ℕ) → i < l → getD opened i 0 ≤ offset
   pub small : offset + 64 * words ≤ 1048576
+
+-- Of a CELL or ADBMAL: how many terms it takes, how many LAMBDAs are open in these, and the word of its node.
+unfoldable pub argumentsAt : List ℕ → ℕ → ℕ
+argumentsAt code at = cond (eqb (getD code at 0) opCELL) (getD code (at + 2) 0) 1
+
+unfoldable pub lambdasIn : List ℕ → ℕ → ℕ → ℕ
+lambdasIn code at l = cond (eqb (getD code at 0) opCELL) l (l + 1)
+
+unfoldable pub headAt : List ℕ → ℕ → ℕ
+headAt code at = cond (eqb (getD code at 0) opCELL) (65536 + getD code (at + 1) 0) 196608
 
 -- A PUSHIMM, or a PUSHI without bodies under which no index changes.
 unfoldable pub movesNothing : List ℕ → ℕ → ℕ → Bool
@@ -59,6 +69,11 @@ module _ (code subject entries work : List ℕ) (words l : ℕ) where
       pub bodies : Tree many
       pub standing : Standing (Pushed e D ks bodies) (root z)
       pub these : ws ≡ orMovedWords (assoc (pairlists ks (wordsOf (entryAt subject entries) bodies)) (x - n)) D n x offset nst
+
+-- the entry of a PUSHI, as the part of the subject from its place to its noted end, and where the places of its nodes begin
+pub record EntryPart (code : List ℕ) (z : ℕ) (part : List ℕ) (places : ℕ) (subject entries work : List ℕ) : Type 0 where
+  pub part-is : part ≡ take (getD work (z + 1) 0 - entryPlace entries (getD code (z + 1) 0)) (drop (entryPlace entries (getD code (z + 1) 0)) subject)
+  pub places-are : places ≡ 4096 + entryPlace entries (getD code (z + 1) 0) / 2
 
 -- a variable of an entry met by the walk: it is free there, and its body, if it has one, was measured
 pub record Met (code work : List ℕ) (z x n : ℕ) : Type 0 where

@@ -15,13 +15,11 @@ use tables::node::ABSTRACTION;
 use tables::node::FIRST_SYMBOL;
 ghost use mathlib.Core.Path.{_≡_};
 ghost use mathlib.Core.List.{[], _∷_};
-ghost use Prim.Native.Nat.{_+_, _≤_, _<_};
+ghost use Prim.Native.Nat.{_+_, _-_, _≤_, _<_};
 ghost use lib.ListN.{length, getD, take};
-ghost use Rattle.documents.specs.Instructions.{opPUSHVAR, opPUSHIMM, opPUSHI};
-ghost use Rattle.links.specs.Links.{overIn};
-ghost use Rattle.links.specs.Standing.{entryPlace};
+ghost use Rattle.documents.specs.Instructions.{opCELL, opPUSHVAR, opPUSHIMM, opPUSHI};
 ghost use Rattle.writer.specs.Written.{Wrote, Writes, Room, nstack};
-ghost use Rattle.writer.specs.Wanted.{Ready, movesNothing, TreesAt, TreeAt, FreeAt, Met};
+ghost use Rattle.writer.specs.Wanted.{Ready, argumentsAt, lambdasIn, headAt, movesNothing, TreesAt, TreeAt, EntryPart, FreeAt, Met};
 
 // So many trees, the root of the last given, before a place of the result. Answers where they begin. OFFSET is `offset`, l LAMBDAs are open,
 // `opened` holds OFFSET at each. The trees stand in at most `words` words of the code, fewer in a body than around it: so the walk ends.
@@ -47,8 +45,7 @@ pub fn write(
     let mut to = end;
     while 0 < left {
         let here = at;
-        let link = work[here];
-        at = before(link);
+        at = before(work[here]);
         left -= 1;
         if code[here] < PUSHVAR {
             to = write_node(
@@ -59,7 +56,6 @@ pub fn write(
                 result,
                 opened,
                 here,
-                over(link),
                 to,
                 offset,
                 l,
@@ -84,7 +80,7 @@ pub fn write(
     to
 }
 
-// A CELL or ADBMAL, behind which stand what it took.
+// A CELL or ADBMAL: what it took, then its own two words. OFFSET is noted for an ADBMAL's LAMBDA; behind those that are open, it is in nobody's way.
 fn write_node(
     code: &[u32],
     subject: &[u32],
@@ -93,32 +89,17 @@ fn write_node(
     result: &mut [u32],
     opened: &mut [u32],
     at: usize,
-    last: usize,
     end: usize,
     offset: u32,
     l: usize,
     words: usize,
 ) -> usize
-    requires { ⌜ Ready (now code) (now subject) (now entries) (now work) (now result) (now opened) end offset l words × Room (TreeAt (now code) (now subject) (now entries) (now work) words l offset (nstack offset l (now opened)) at) end × (getD (now code) at 0 < opPUSHVAR) × (last ≡ overIn (getD (now work) at 0)) ⌝ }
+    requires { ⌜ Ready (now code) (now subject) (now entries) (now work) (now result) (now opened) end offset l words × Room (TreeAt (now code) (now subject) (now entries) (now work) words l offset (nstack offset l (now opened)) at) end × (getD (now code) at 0 < opPUSHVAR) ⌝ }
     ensures { λ r. ⌜ Writes (TreeAt (now (code .entry)) (now (subject .entry)) (now (entries .entry)) (now (work .entry)) words l offset (nstack offset l (now (opened .entry))) at) (now (result .entry)) (now (result .exit)) r end × (take l (now (opened .exit)) ≡ take l (now (opened .entry))) ⌝ }
 {
-    if code[at] == CELL {
-        let count = code[at + 2];
-        let to = write(
-            code,
-            subject,
-            entries,
-            work,
-            result,
-            opened,
-            last,
-            count,
-            end,
-            offset,
-            l,
-            words,
-        );
-        return put(result, to, FIRST_SYMBOL + code[at + 1], count);
+    let count = arguments(code, at);
+    if count == 0 {
+        return put(result, end, head(code, at), 0);
     }
     opened[l] = offset;
     let to = write(
@@ -128,14 +109,47 @@ fn write_node(
         work,
         result,
         opened,
-        last,
-        1,
+        over(work[at]),
+        count,
         end,
         offset,
-        l + 1,
+        inner(code, at, l),
         words,
     );
-    put(result, to, ABSTRACTION, 1)
+    put(result, to, head(code, at), count)
+}
+
+// How many terms a CELL or ADBMAL takes.
+fn arguments(code: &[u32], at: usize) -> u32
+    requires { ⌜ (at < length (now code)) × (getD (now code) at 0 ≡ opCELL → at + 2 < length (now code)) ⌝ }
+    ensures { λ r. ⌜ r ≡ argumentsAt (now (code .entry)) at ⌝ }
+{
+    if code[at] == CELL {
+        return code[at + 2];
+    }
+    1
+}
+
+// How many LAMBDAs are open in these.
+fn inner(code: &[u32], at: usize, l: usize) -> usize
+    requires { ⌜ (at < length (now code)) × (l < 64) ⌝ }
+    ensures { λ r. ⌜ r ≡ lambdasIn (now (code .entry)) at l ⌝ }
+{
+    if code[at] == CELL {
+        return l;
+    }
+    l + 1
+}
+
+// The word of its node.
+fn head(code: &[u32], at: usize) -> u32
+    requires { ⌜ (at < length (now code)) × (getD (now code) at 0 ≡ opCELL → (at + 1 < length (now code)) × (getD (now code) (at + 1) 0 < 65536)) ⌝ }
+    ensures { λ r. ⌜ r ≡ headAt (now (code .entry)) at ⌝ }
+{
+    if code[at] == CELL {
+        return FIRST_SYMBOL + code[at + 1];
+    }
+    ABSTRACTION
 }
 
 // A node's two words.
@@ -167,8 +181,7 @@ fn write_leaf(
 {
     let operand = code[at + 1];
     if code[at] == PUSHVAR {
-        let then = opened[l - 1 - operand as usize];
-        return put(result, end, operand + (offset - then), 0);
+        return put(result, end, bound(operand, opened, offset, l), 0);
     }
     let first = entries[entries.len() - 1 - operand as usize] as usize;
     let last = work[at + 1] as usize;
@@ -177,19 +190,27 @@ fn write_leaf(
     }
     write_entry(
         code,
+        at,
+        &subject[first..last],
+        NODES_AT + first / 2,
         subject,
         entries,
         work,
         result,
         opened,
-        at,
-        first,
-        last,
         end,
         offset,
         l,
         words,
     )
+}
+
+// The index of a bound variable: it has crossed as many abstractions of entries as were crossed since its LAMBDA.
+fn bound(operand: u32, opened: &[u32], offset: u32, l: usize) -> u32
+    requires { ⌜ (operand < l) × (l ≤ length (now opened)) × (l ≤ 63) × (getD (now opened) (l - 1 - operand) 0 ≤ offset) × (offset ≤ 1048576) ⌝ }
+    ensures { λ r. ⌜ r ≡ operand + (offset - getD (now (opened .entry)) (l - 1 - operand) 0) ⌝ }
+{
+    operand + (offset - opened[l - 1 - operand as usize])
 }
 
 // A PUSHIMM, or a PUSHI without bodies under which no index changes.
@@ -220,66 +241,67 @@ fn copy(part: &[u32], result: &mut [u32], end: usize) -> usize
     to
 }
 
-// The walk of an entry, from its last node to its first.
+// The walk of an entry, handed on as a part of the subject, from its last node to its first.
 fn write_entry(
     code: &[u32],
+    push: usize,
+    part: &[u32],
+    places: usize,
     subject: &[u32],
     entries: &[u32],
     work: &[u32],
     result: &mut [u32],
     opened: &mut [u32],
-    push: usize,
-    first: usize,
-    last: usize,
     end: usize,
     offset: u32,
     l: usize,
     words: usize,
 ) -> usize
-    requires { ⌜ Ready (now code) (now subject) (now entries) (now work) (now result) (now opened) end offset l words × Room (TreeAt (now code) (now subject) (now entries) (now work) words l offset (nstack offset l (now opened)) push) end × (getD (now code) push 0 ≡ opPUSHI) × (first ≡ entryPlace (now entries) (getD (now code) (push + 1) 0)) × (last ≡ getD (now work) (push + 1) 0) ⌝ }
+    requires { ⌜ Ready (now code) (now subject) (now entries) (now work) (now result) (now opened) end offset l words × Room (TreeAt (now code) (now subject) (now entries) (now work) words l offset (nstack offset l (now opened)) push) end × (getD (now code) push 0 ≡ opPUSHI) × EntryPart (now code) push (now part) places (now subject) (now entries) (now work) ⌝ }
     ensures { λ r. ⌜ Writes (TreeAt (now (code .entry)) (now (subject .entry)) (now (entries .entry)) (now (work .entry)) words l offset (nstack offset l (now (opened .entry))) push) (now (result .entry)) (now (result .exit)) r end × (take l (now (opened .exit)) ≡ take l (now (opened .entry))) ⌝ }
 {
-    let root = work[NODES_AT + first / 2];
-    let mut at = last;
+    let root = work[places];
+    let mut at = part.len();
     let mut to = end;
-    while first < at {
+    while 0 < at {
         at -= 2;
-        let word = subject[at];
-        let inside = (work[NODES_AT + at / 2] - root) % LEVEL;
+        let word = part[at];
+        let inside = (work[places + at / 2] - root) % LEVEL;
         if is_free(word, inside) {
             to = write_free(
                 code,
+                push,
+                word,
+                inside,
                 subject,
                 entries,
                 work,
                 result,
                 opened,
-                push,
-                word,
-                inside,
                 to,
                 offset,
                 l,
                 words,
             );
         } else {
-            to = put(result, to, word, subject[at + 1]);
+            to = put(result, to, word, part[at + 1]);
         }
     }
     to
 }
 
-// A variable that is free in an entry, met under so many abstractions of it: its body, run there, or its index moved.
+// A variable that is free in an entry, met under so many abstractions of it: its body, run there, or its index moved. Most bodies are one bound
+// variable, which needs no call.
 fn write_free(
     code: &[u32],
+    push: usize,
+    word: u32,
+    inside: u32,
     subject: &[u32],
     entries: &[u32],
     work: &[u32],
     result: &mut [u32],
     opened: &mut [u32],
-    push: usize,
-    word: u32,
-    inside: u32,
     end: usize,
     offset: u32,
     l: usize,
@@ -291,7 +313,15 @@ fn write_free(
     let Found::Key(key) = find(code, push + 4, code[push + 3], word - inside) else {
         return put(result, end, moved(word, code[push + 2] + offset), 0);
     };
-    let body = code[key + 1] as usize;
+    let root = work[key] as usize;
+    if code[root] == PUSHVAR {
+        return put(
+            result,
+            end,
+            bound(code[root + 1], opened, offset + inside, l),
+            0,
+        );
+    }
     write(
         code,
         subject,
@@ -299,11 +329,11 @@ fn write_free(
         work,
         result,
         opened,
-        work[key] as usize,
+        root,
         1,
         end,
         offset + inside,
         l,
-        body,
+        code[key + 1] as usize,
     )
 }

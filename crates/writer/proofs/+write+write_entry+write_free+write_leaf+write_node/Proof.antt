@@ -2,20 +2,19 @@
 -- and before that the place of the root. Each says: whatever words are wanted of trees that stand there, they were written; so a call is its words put
 -- before those written so far.
 use mathlib.Core.Path.{refl, sym, ap, _∙_}
-use Prim.Native.Nat.{_+_, _-_, _*_, ℕ, _<_}
+use Prim.Native.Nat.{_+_, _*_, ℕ, _<_}
 use native.Mathlib.Omega.{arith}
 use mathlib.Core.List.{[], _∷_}
-use lib.ListN.{length, getD, length-set}
+use lib.ListN.{length, length-set}
 use borrow.Author.Needs.{needs}
 use borrow.Fn.Kinds.{In}
 use borrow.Fn.PlainCycle.{Measures, is, falls, and}
 use Rattle.writer.proofs.Moves.{moves-pushed}
 use Rattle.writer.proofs.Writings.{writes-from, room-from, room-last, writes-exactly}
-use Rattle.writer.proofs.Opened.{nstack-raised}
-use Rattle.writer.proofs.Rooting.{leaf-within, tree-root, tree-cell, tree-block, tree-bound}
+use Rattle.writer.proofs.Rooting.{leaf-within, tree-root, tree-cell, tree-bound}
 use Rattle.writer.proofs.Entries.{named-part, tree-named, tree-pushed, copied-words}
-use Rattle.writer.proofs.Freed.{key-found, key-missing, free-low, free-readable, free-moved, free-falls, free-body}
-use Rattle.writer.proofs.Walking.{lex, falls-left, falls-right, ready-block, ready-body, cell-parts, block-parts, nstack-block, block-same, two-fit, two-written, bound-fits, bound-written, Writing, writing-from, writing-ended, writing-room, writing-at, writing-ready, writing-on, Entering, entering-from, entering-ended, entering-ready, entering-two, entering-within, entering-below, entering-met, entering-room, entering-free, entering-fit, entering-kept}
+use Rattle.writer.proofs.Freed.{key-found, key-missing, free-low, free-readable, free-moved, free-falls}
+use Rattle.writer.proofs.Walking.{lex, falls-left, falls-right, ready-inner, ready-bound, node-inner, node-parts, inner-same, none-written, two-fit, two-written, bound-fits, bound-written, body-trees, body-tree, body-ready, Writing, writing-from, writing-ended, writing-room, writing-at, writing-ready, writing-on, Entering, entry-root, entering-from, entering-ended, entering-ready, entering-two, entering-within, entering-below, entering-met, entering-room, entering-free, entering-fit, entering-kept}
 use Rattle.writer.proofs.+write+write_entry+write_free+write_leaf+write_node.{statement}
 use Rattle.writer.proofs.+write+write_entry+write_free+write_leaf+write_node.Tie.{close}
 use Rattle.writer.proofs.write.Reads as write
@@ -38,24 +37,28 @@ use Rattle.links.proofs.link.before.Reads as before-reads
 use Rattle.links.proofs.link.over.Reads as over-reads
 use Rattle.links.proofs.variable.is_free.Reads as is-free-reads
 use Rattle.links.proofs.variable.moved.Reads as moved-reads
+use Rattle.writer.proofs.arguments.Reads as arguments-reads
+use Rattle.writer.proofs.bound.Reads as bound-reads
 use Rattle.writer.proofs.copy.Reads as copy-reads
+use Rattle.writer.proofs.head.Reads as head-reads
+use Rattle.writer.proofs.inner.Reads as inner-reads
 use Rattle.writer.proofs.moves_nothing.Reads as moves-nothing-reads
 use Rattle.writer.proofs.put.Reads as put-reads
 
 abbrev μ-write : Measures 6 write-kinds.ps ℕ
 μ-write κs a = lex (a .1 .1 .1 .1 .1 .1 .1 .1 .1 .1 .1 .0) (4 * (a .1 .1 .1 .1 .1 .1 .0) + 3)
 
-abbrev μ-write-entry : Measures 6 write-entry-kinds.ps ℕ
-μ-write-entry κs a = lex (a .1 .1 .1 .1 .1 .1 .1 .1 .1 .1 .1 .1 .0) (4 * (a .1 .1 .1 .1 .1 .1 .0) + 1)
+abbrev μ-write-entry : Measures 7 write-entry-kinds.ps ℕ
+μ-write-entry κs a = lex (a .1 .1 .1 .1 .1 .1 .1 .1 .1 .1 .1 .1 .0) (4 * (a .1 .0) + 1)
 
 abbrev μ-write-free : Measures 6 write-free-kinds.ps ℕ
-μ-write-free κs a = lex (a .1 .1 .1 .1 .1 .1 .1 .1 .1 .1 .1 .1 .0) (4 * (a .1 .1 .1 .1 .1 .1 .0))
+μ-write-free κs a = lex (a .1 .1 .1 .1 .1 .1 .1 .1 .1 .1 .1 .1 .0) (4 * (a .1 .0))
 
 abbrev μ-write-leaf : Measures 6 write-leaf-kinds.ps ℕ
 μ-write-leaf κs a = lex (a .1 .1 .1 .1 .1 .1 .1 .1 .1 .1 .0) (4 * (a .1 .1 .1 .1 .1 .1 .0) + 2)
 
 abbrev μ-write-node : Measures 6 write-node-kinds.ps ℕ
-μ-write-node κs a = lex (a .1 .1 .1 .1 .1 .1 .1 .1 .1 .1 .1 .0) (4 * (a .1 .1 .1 .1 .1 .1 .0) + 2)
+μ-write-node κs a = lex (a .1 .1 .1 .1 .1 .1 .1 .1 .1 .1 .0) (4 * (a .1 .1 .1 .1 .1 .1 .0) + 2)
 
 abbrev write-at : ℕ → In 6 write-kinds.ps
 write-at t = and 6 write-kinds.ps (is 6 write-kinds.ps μ-write t) write.Pre
@@ -63,13 +66,13 @@ write-at t = and 6 write-kinds.ps (is 6 write-kinds.ps μ-write t) write.Pre
 abbrev write-below : ℕ → In 6 write-kinds.ps
 write-below t = and 6 write-kinds.ps (falls 6 write-kinds.ps _<_ μ-write t) write.Pre
 
-abbrev write-entry-at : ℕ → In 6 write-entry-kinds.ps
+abbrev write-entry-at : ℕ → In 7 write-entry-kinds.ps
 write-entry-at t =
-    and 6 write-entry-kinds.ps (is 6 write-entry-kinds.ps μ-write-entry t) write-entry.Pre
+    and 7 write-entry-kinds.ps (is 7 write-entry-kinds.ps μ-write-entry t) write-entry.Pre
 
-abbrev write-entry-below : ℕ → In 6 write-entry-kinds.ps
+abbrev write-entry-below : ℕ → In 7 write-entry-kinds.ps
 write-entry-below t =
-    and 6 write-entry-kinds.ps (falls 6 write-entry-kinds.ps _<_ μ-write-entry t) write-entry.Pre
+    and 7 write-entry-kinds.ps (falls 7 write-entry-kinds.ps _<_ μ-write-entry t) write-entry.Pre
 
 abbrev write-free-at : ℕ → In 6 write-free-kinds.ps
 write-free-at t =
@@ -102,18 +105,16 @@ abbrev write-μ-loop : write-lts.MeasureT-loop
 write-μ-loop code subject entries work result₀ opened₀ root count end offset l words left₀ at₀ to₀ result opened left at to = left
 
 abbrev write-entry-Inv-loop : write-entry-lts.InvT-loop
-write-entry-Inv-loop code subject entries work result₀ opened₀ push first last end offset l words root at₀ to₀ result opened at to = Entering code subject entries work result₀ result opened₀ opened end to push first at offset l words
+write-entry-Inv-loop code push part places subject entries work result₀ opened₀ end offset l words root at₀ to₀ result opened at to = Entering code subject entries work part result₀ result opened₀ opened end to push places at offset l words
 
 abbrev write-entry-μ-loop : write-entry-lts.MeasureT-loop
-write-entry-μ-loop code subject entries work result₀ opened₀ push first last end offset l words root at₀ to₀ result opened at to = at
+write-entry-μ-loop code push part places subject entries work result₀ opened₀ end offset l words root at₀ to₀ result opened at to = at
 
 pub +write+write-entry+write-free+write-leaf+write-node-spec : {M : Type 1} → statement M
 +write+write-entry+write-free+write-leaf+write-node-spec =
     close μ-write μ-write-entry μ-write-free μ-write-leaf μ-write-node (λ t. write-lts.spec (
       before-reads.Asked,
       before-reads.Learnt,
-      over-reads.Asked,
-      over-reads.Learnt,
       write-node-below t,
       write-node.Post,
       write-leaf-below t,
@@ -130,10 +131,9 @@ pub +write+write-entry+write-free+write-leaf+write-node-spec : {M : Type 1} → 
     (λ c. search needs)
     (λ c. let a = writing-at (c .before .before .before .loop .inv) (omega arith) .within in let s = c .before .before .before .before .before .before .before .before .before .before .pre .1 .0 .scene .code-short in search needs)
     (λ c. let a = writing-at (c .before .before .before .before .loop .inv) (omega arith) .within in search needs)
-    (λ c κs. search needs)
-    (λ c κs. (falls-right _ _ _ t (c .before .before .before .before .before .before .before .before .before .before .before .before .before .before .before .pre .0) (let i = c .before .before .before .before .before .before .before .before .loop .inv .falling in omega arith), (writing-ready (c .before .before .before .before .before .before .before .before .loop .inv) (omega arith) (c .before .before .before .before .before .before .before .before .before .before .before .before .before .before .before .pre .1 .0), writing-room (c .before .before .before .before .before .before .before .before .loop .inv) (omega arith), c .before .before .before .if1 .taken, c .over .ensures)))
+    (λ c κs. (falls-right _ _ _ t (c .before .before .before .before .before .before .before .before .before .before .before .before .before .before .pre .0) (let i = c .before .before .before .before .before .before .before .loop .inv .falling in omega arith), (writing-ready (c .before .before .before .before .before .before .before .loop .inv) (omega arith) (c .before .before .before .before .before .before .before .before .before .before .before .before .before .before .pre .1 .0), writing-room (c .before .before .before .before .before .before .before .loop .inv) (omega arith), c .before .before .if1 .taken)))
     (λ c. search needs)
-    (λ c. writing-on (c .before .before .before .before .before .before .before .before .before .before .before .before .before .loop .inv) (omega arith) (c .before .before .before .before .write-node .ensures .0) (c .before .before .before .before .write-node .ensures .1) (c .before .before .before .before .write-node .kept .1 .1 .1 .1 .0) (c .before .before .before .before .write-node .kept .1 .1 .1 .1 .1 .0) (c .before .before .before .before .before .before .before .before .before .before .before2 .ensures))
+    (λ c. writing-on (c .before .before .before .before .before .before .before .before .before .before .before .before .loop .inv) (omega arith) (c .before .before .before .before .write-node .ensures .0) (c .before .before .before .before .write-node .ensures .1) (c .before .before .before .before .write-node .kept .1 .1 .1 .1 .0) (c .before .before .before .before .write-node .kept .1 .1 .1 .1 .1 .0) (c .before .before .before .before .before .before .before .before .before .before2 .ensures))
     (λ c κs. (falls-right _ _ _ t (c .before .before .before .before .before .before .before .before .before .before .before .before .before .before .pre .0) (let i = c .before .before .before .before .before .before .before .loop .inv .falling in omega arith), (writing-ready (c .before .before .before .before .before .before .before .loop .inv) (omega arith) (c .before .before .before .before .before .before .before .before .before .before .before .before .before .before .pre .1 .0), writing-room (c .before .before .before .before .before .before .before .loop .inv) (omega arith), omega arith)))
     (λ c. search needs)
     (λ c. writing-on (c .before .before .before .before .before .before .before .before .before .before .before .before .loop .inv) (omega arith) (c .before .before .before .before .write-leaf .ensures .0) (c .before .before .before .before .write-leaf .ensures .1) (c .before .before .before .before .write-leaf .kept .1 .1 .1 .1 .0) (c .before .before .before .before .write-leaf .kept .1 .1 .1 .1 .1 .0) (c .before .before .before .before .before .before .before .before .before .before2 .ensures))
@@ -152,30 +152,29 @@ pub +write+write-entry+write-free+write-leaf+write-node-spec : {M : Type 1} → 
     write-entry.Post
     write-entry-Inv-loop
     write-entry-μ-loop
-    (λ c. let v = named-part (c .before .before .before .before .before .before .pre .1 .0 .scene) (tree-named (let q = c .before .before .before .before .before .before .pre .1 .2 in omega arith) (λ x. let q = c .before .before .before .before .before .before .pre .1 .2 in omega arith) (c .before .before .before .before .before .before .pre .1 .1 .wanted)) in let f = c .before .before .before .before .before .before .pre .1 .0 .scene .few in let m = c .before .before .before .before .before .before .pre .1 .0 .scene .work-long in let g = c .before .before .before .before .before .before .pre .1 .3 in search needs)
-    (λ c. let v = named-part (c .before .before .before .before .before .before .pre .1 .0 .scene) (tree-named (let q = c .before .before .before .before .before .before .pre .1 .2 in omega arith) (λ x. let q = c .before .before .before .before .before .before .pre .1 .2 in omega arith) (c .before .before .before .before .before .before .pre .1 .1 .wanted)) in let f = c .before .before .before .before .before .before .pre .1 .0 .scene .few in let m = c .before .before .before .before .before .before .pre .1 .0 .scene .work-long in let g = c .before .before .before .before .before .before .pre .1 .3 in search needs)
-    (λ c. let v = named-part (c .before .before .before .before .before .before .before .pre .1 .0 .scene) (tree-named (let q = c .before .before .before .before .before .before .before .pre .1 .2 in omega arith) (λ x. let q = c .before .before .before .before .before .before .before .pre .1 .2 in omega arith) (c .before .before .before .before .before .before .before .pre .1 .1 .wanted)) in let f = c .before .before .before .before .before .before .before .pre .1 .0 .scene .few in let m = c .before .before .before .before .before .before .before .pre .1 .0 .scene .work-long in let g = c .before .before .before .before .before .before .before .pre .1 .3 in search needs)
-    (λ c. entering-from (c .before .before .before .before .before .before .before .pre .1 .0) (c .before .before .before .before .before .before .before .pre .1 .1) (c .before .before .before .before .before .before .before .pre .1 .2) (c .before .before .before .before .before .before .before .pre .1 .3) (c .before .before .before .before .before .before .before .pre .1 .4))
-    (λ c. let b = entering-two (c .before .before .before .before .before .before .before .before .before .pre .1 .0) (c .before .loop .inv) (omega arith) in let v = entering-within (c .before .before .before .before .before .before .before .before .before .pre .1 .0) (c .before .loop .inv) (omega arith) in let f = c .before .before .before .before .before .before .before .before .before .pre .1 .0 .scene .few in let m = c .before .before .before .before .before .before .before .before .before .pre .1 .0 .scene .work-long in let p = entering-below (c .before .before .before .before .before .before .before .before .before .pre .1 .0) (c .before .loop .inv) (omega arith) .0 in search needs)
-    (λ c. let b = entering-two (c .before .before .before .before .before .before .before .before .before .pre .1 .0) (c .before .loop .inv) (omega arith) in let v = entering-within (c .before .before .before .before .before .before .before .before .before .pre .1 .0) (c .before .loop .inv) (omega arith) in let f = c .before .before .before .before .before .before .before .before .before .pre .1 .0 .scene .few in let m = c .before .before .before .before .before .before .before .before .before .pre .1 .0 .scene .work-long in let p = entering-below (c .before .before .before .before .before .before .before .before .before .pre .1 .0) (c .before .loop .inv) (omega arith) .0 in search needs)
-    (λ c. let b = entering-two (c .before .before .before .before .before .before .before .before .before .before .pre .1 .0) (c .before .before .loop .inv) (omega arith) in let v = entering-within (c .before .before .before .before .before .before .before .before .before .before .pre .1 .0) (c .before .before .loop .inv) (omega arith) in let f = c .before .before .before .before .before .before .before .before .before .before .pre .1 .0 .scene .few in let m = c .before .before .before .before .before .before .before .before .before .before .pre .1 .0 .scene .work-long in let p = entering-below (c .before .before .before .before .before .before .before .before .before .before .pre .1 .0) (c .before .before .loop .inv) (omega arith) .0 in search needs)
-    (λ c. let b = entering-two (c .before .before .before .before .before .before .before .before .before .before .pre .1 .0) (c .before .before .loop .inv) (omega arith) in let v = entering-within (c .before .before .before .before .before .before .before .before .before .before .pre .1 .0) (c .before .before .loop .inv) (omega arith) in let f = c .before .before .before .before .before .before .before .before .before .before .pre .1 .0 .scene .few in let m = c .before .before .before .before .before .before .before .before .before .before .pre .1 .0 .scene .work-long in let p = entering-below (c .before .before .before .before .before .before .before .before .before .before .pre .1 .0) (c .before .before .loop .inv) (omega arith) .0 in search needs)
-    (λ c. let b = entering-two (c .before .before .before .before .before .before .before .before .before .before .pre .1 .0) (c .before .before .loop .inv) (omega arith) in let v = entering-within (c .before .before .before .before .before .before .before .before .before .before .pre .1 .0) (c .before .before .loop .inv) (omega arith) in let f = c .before .before .before .before .before .before .before .before .before .before .pre .1 .0 .scene .few in let m = c .before .before .before .before .before .before .before .before .before .before .pre .1 .0 .scene .work-long in let p = entering-below (c .before .before .before .before .before .before .before .before .before .before .pre .1 .0) (c .before .before .loop .inv) (omega arith) .0 in search needs)
-    (λ c. let b = entering-two (c .before .before .before .before .before .before .before .before .before .before .before .pre .1 .0) (c .before .before .before .loop .inv) (omega arith) in let v = entering-within (c .before .before .before .before .before .before .before .before .before .before .before .pre .1 .0) (c .before .before .before .loop .inv) (omega arith) in let f = c .before .before .before .before .before .before .before .before .before .before .before .pre .1 .0 .scene .few in let m = c .before .before .before .before .before .before .before .before .before .before .before .pre .1 .0 .scene .work-long in let p = entering-below (c .before .before .before .before .before .before .before .before .before .before .before .pre .1 .0) (c .before .before .before .loop .inv) (omega arith) .0 in search needs)
-    (λ c. let b = entering-two (c .before .before .before .before .before .before .before .before .before .before .before .pre .1 .0) (c .before .before .before .loop .inv) (omega arith) in let v = entering-within (c .before .before .before .before .before .before .before .before .before .before .before .pre .1 .0) (c .before .before .before .loop .inv) (omega arith) in let f = c .before .before .before .before .before .before .before .before .before .before .before .pre .1 .0 .scene .few in let m = c .before .before .before .before .before .before .before .before .before .before .before .pre .1 .0 .scene .work-long in let p = entering-below (c .before .before .before .before .before .before .before .before .before .before .before .pre .1 .0) (c .before .before .before .loop .inv) (omega arith) .0 in search needs)
+    (λ c. let v = entry-root (c .before .before .before .before .before .before .before .pre .1 .0) (c .before .before .before .before .before .before .before .pre .1 .1) (c .before .before .before .before .before .before .before .pre .1 .2) (c .before .before .before .before .before .before .before .pre .1 .3) in let m = c .before .before .before .before .before .before .before .pre .1 .0 .scene .work-long in search needs)
+    (λ c. let v = entry-root (c .before .before .before .before .before .before .before .before .pre .1 .0) (c .before .before .before .before .before .before .before .before .pre .1 .1) (c .before .before .before .before .before .before .before .before .pre .1 .2) (c .before .before .before .before .before .before .before .before .pre .1 .3) in let m = c .before .before .before .before .before .before .before .before .pre .1 .0 .scene .work-long in search needs)
+    (λ c. entering-from (c .before .before .before .before .before .before .before .before .pre .1 .0) (c .before .before .before .before .before .before .before .before .pre .1 .1) (c .before .before .before .before .before .before .before .before .pre .1 .2) (c .before .before .before .before .before .before .before .before .pre .1 .3))
+    (λ c. let b = entering-two (c .before .before .before .before .before .before .before .before .before .before .pre .1 .0) (c .before .loop .inv) (omega arith) in search needs)
+    (λ c. let b = entering-two (c .before .before .before .before .before .before .before .before .before .before .pre .1 .0) (c .before .loop .inv) (omega arith) in let v = entering-within (c .before .before .before .before .before .before .before .before .before .before .pre .1 .0) (c .before .loop .inv) (omega arith) in let m = c .before .before .before .before .before .before .before .before .before .before .pre .1 .0 .scene .work-long in search needs)
+    (λ c. let b = entering-two (c .before .before .before .before .before .before .before .before .before .before .before .pre .1 .0) (c .before .before .loop .inv) (omega arith) in let v = entering-within (c .before .before .before .before .before .before .before .before .before .before .before .pre .1 .0) (c .before .before .loop .inv) (omega arith) in let m = c .before .before .before .before .before .before .before .before .before .before .before .pre .1 .0 .scene .work-long in search needs)
+    (λ c. let b = entering-two (c .before .before .before .before .before .before .before .before .before .before .before .pre .1 .0) (c .before .before .loop .inv) (omega arith) in let v = entering-within (c .before .before .before .before .before .before .before .before .before .before .before .pre .1 .0) (c .before .before .loop .inv) (omega arith) in let m = c .before .before .before .before .before .before .before .before .before .before .before .pre .1 .0 .scene .work-long in search needs)
+    (λ c. let b = entering-two (c .before .before .before .before .before .before .before .before .before .before .before .pre .1 .0) (c .before .before .loop .inv) (omega arith) in let v = entering-within (c .before .before .before .before .before .before .before .before .before .before .before .pre .1 .0) (c .before .before .loop .inv) (omega arith) in let m = c .before .before .before .before .before .before .before .before .before .before .before .pre .1 .0 .scene .work-long in search needs)
+    (λ c. let b = entering-two (c .before .before .before .before .before .before .before .before .before .before .before .before .pre .1 .0) (c .before .before .before .loop .inv) (omega arith) in let v = entering-within (c .before .before .before .before .before .before .before .before .before .before .before .before .pre .1 .0) (c .before .before .before .loop .inv) (omega arith) in let m = c .before .before .before .before .before .before .before .before .before .before .before .before .pre .1 .0 .scene .work-long in search needs)
+    (λ c. let p = entering-below (c .before .before .before .before .before .before .before .before .before .before .before .before .pre .1 .0) (c .before .before .before .loop .inv) (omega arith) .0 in search needs)
     (λ c κs. search needs)
-    (λ c κs. (falls-right _ _ _ t (c .before .before .before .before .before .before .before .before .before .before .before .before .before .before .before .pre .0) (omega arith), (entering-ready (c .before .before .before .before .before .before .before .before .before .before .before .before .before .before .before .pre .1 .0) (c .before .before .before .before .before .before .before .loop .inv), entering-room (c .before .before .before .before .before .before .before .before .before .before .before .before .before .before .before .pre .1 .0) (c .before .before .before .before .before .before .before .loop .inv) (omega arith) (sym (c .before .before .before .is-free .ensures) ∙ c .before .before .if1 .taken), entering-met (c .before .before .before .before .before .before .before .before .before .before .before .before .before .before .before .pre .1 .0) (c .before .before .before .before .before .before .before .loop .inv) (omega arith) (sym (c .before .before .before .is-free .ensures) ∙ c .before .before .if1 .taken))))
-    (λ c. let b = entering-two (c .before .before .before .before .before .before .before .before .before .before .before .before .before .before .before .before .before .before .before .before .pre .1 .0) (c .before .before .before .before .before .before .before .before .before .before .before .before .loop .inv) (omega arith) in let v = entering-within (c .before .before .before .before .before .before .before .before .before .before .before .before .before .before .before .before .before .before .before .before .pre .1 .0) (c .before .before .before .before .before .before .before .before .before .before .before .before .loop .inv) (omega arith) in let f = c .before .before .before .before .before .before .before .before .before .before .before .before .before .before .before .before .before .before .before .before .pre .1 .0 .scene .few in let m = c .before .before .before .before .before .before .before .before .before .before .before .before .before .before .before .before .before .before .before .before .pre .1 .0 .scene .work-long in let p = entering-below (c .before .before .before .before .before .before .before .before .before .before .before .before .before .before .before .before .before .before .before .before .pre .1 .0) (c .before .before .before .before .before .before .before .before .before .before .before .before .loop .inv) (omega arith) .0 in search needs)
-    (λ c. entering-free (c .before .before .before .before .before .before .before .before .before .before .before .before .before .before .before .before .before .before .before .before .pre .1 .0) (c .before .before .before .before .before .before .before .before .before .before .before .before .loop .inv) (omega arith) (sym (c .before .before .before .before .before .before .before .before .is-free .ensures) ∙ c .before .before .before .before .before .before .before .if1 .taken) (c .before .before .before .before .write-free .ensures .0) (c .before .before .before .before .write-free .ensures .1) (c .before .before .before .before .write-free .kept .1 .1 .1 .1 .0) (c .before .before .before .before .write-free .kept .1 .1 .1 .1 .1 .0))
-    (λ c. let b = entering-two (c .before .before .before .before .before .before .before .before .before .before .before .before .before .before .pre .1 .0) (c .before .before .before .before .before .before .loop .inv) (omega arith) in let v = entering-within (c .before .before .before .before .before .before .before .before .before .before .before .before .before .before .pre .1 .0) (c .before .before .before .before .before .before .loop .inv) (omega arith) in let f = c .before .before .before .before .before .before .before .before .before .before .before .before .before .before .pre .1 .0 .scene .few in let m = c .before .before .before .before .before .before .before .before .before .before .before .before .before .before .pre .1 .0 .scene .work-long in let p = entering-below (c .before .before .before .before .before .before .before .before .before .before .before .before .before .before .pre .1 .0) (c .before .before .before .before .before .before .loop .inv) (omega arith) .0 in search needs)
-    (λ c. let b = entering-two (c .before .before .before .before .before .before .before .before .before .before .before .before .before .before .pre .1 .0) (c .before .before .before .before .before .before .loop .inv) (omega arith) in let v = entering-within (c .before .before .before .before .before .before .before .before .before .before .before .before .before .before .pre .1 .0) (c .before .before .before .before .before .before .loop .inv) (omega arith) in let f = c .before .before .before .before .before .before .before .before .before .before .before .before .before .before .pre .1 .0 .scene .few in let m = c .before .before .before .before .before .before .before .before .before .before .before .before .before .before .pre .1 .0 .scene .work-long in let p = entering-below (c .before .before .before .before .before .before .before .before .before .before .before .before .before .before .pre .1 .0) (c .before .before .before .before .before .before .loop .inv) (omega arith) .0 in search needs)
-    (λ c. let b = entering-two (c .before .before .before .before .before .before .before .before .before .before .before .before .before .before .before .pre .1 .0) (c .before .before .before .before .before .before .before .loop .inv) (omega arith) in let v = entering-within (c .before .before .before .before .before .before .before .before .before .before .before .before .before .before .before .pre .1 .0) (c .before .before .before .before .before .before .before .loop .inv) (omega arith) in let f = c .before .before .before .before .before .before .before .before .before .before .before .before .before .before .before .pre .1 .0 .scene .few in let m = c .before .before .before .before .before .before .before .before .before .before .before .before .before .before .before .pre .1 .0 .scene .work-long in let p = entering-below (c .before .before .before .before .before .before .before .before .before .before .before .before .before .before .before .pre .1 .0) (c .before .before .before .before .before .before .before .loop .inv) (omega arith) .0 in search needs)
-    (λ c κs. (entering-fit (c .before .before .before .before .before .before .before .before .before .before .before .before .before .before .before .pre .1 .0) (c .before .before .before .before .before .before .before .loop .inv) (omega arith) (sym (c .before .before .before .is-free .ensures) ∙ c .before .before .if1 .left), entering-ready (c .before .before .before .before .before .before .before .before .before .before .before .before .before .before .before .pre .1 .0) (c .before .before .before .before .before .before .before .loop .inv) .inside))
-    (λ c. let b = entering-two (c .before .before .before .before .before .before .before .before .before .before .before .before .before .before .before .before .before .before .pre .1 .0) (c .before .before .before .before .before .before .before .before .before .before .loop .inv) (omega arith) in let v = entering-within (c .before .before .before .before .before .before .before .before .before .before .before .before .before .before .before .before .before .before .pre .1 .0) (c .before .before .before .before .before .before .before .before .before .before .loop .inv) (omega arith) in let f = c .before .before .before .before .before .before .before .before .before .before .before .before .before .before .before .before .before .before .pre .1 .0 .scene .few in let m = c .before .before .before .before .before .before .before .before .before .before .before .before .before .before .before .before .before .before .pre .1 .0 .scene .work-long in let p = entering-below (c .before .before .before .before .before .before .before .before .before .before .before .before .before .before .before .before .before .before .pre .1 .0) (c .before .before .before .before .before .before .before .before .before .before .loop .inv) (omega arith) .0 in search needs)
-    (λ c. entering-kept (c .before .before .before .before .before .before .before .before .before .before .before .before .before .before .before .before .before .before .pre .1 .0) (c .before .before .before .before .before .before .before .before .before .before .loop .inv) (omega arith) (sym (c .before .before .before .before .before .before .is-free .ensures) ∙ c .before .before .before .before .before .if1 .left) (c .before .before .put .ensures) (c .before .before .put .kept .0))
+    (λ c κs. (falls-right _ _ _ t (c .before .before .before .before .before .before .before .before .before .before .before .before .before .before .before .before .pre .0) (omega arith), (entering-ready (c .before .before .before .before .before .before .before .before .before .before .before .before .before .before .before .before .pre .1 .0) (c .before .before .before .before .before .before .before .loop .inv), entering-room (c .before .before .before .before .before .before .before .before .before .before .before .before .before .before .before .before .pre .1 .0) (c .before .before .before .before .before .before .before .loop .inv) (omega arith) (sym (c .before .before .before .is-free .ensures) ∙ c .before .before .if1 .taken), entering-met (c .before .before .before .before .before .before .before .before .before .before .before .before .before .before .before .before .pre .1 .0) (c .before .before .before .before .before .before .before .loop .inv) (omega arith) (sym (c .before .before .before .is-free .ensures) ∙ c .before .before .if1 .taken))))
+    (λ c. let b = entering-two (c .before .before .before .before .before .before .before .before .before .before .before .before .before .before .before .before .before .before .before .before .before .pre .1 .0) (c .before .before .before .before .before .before .before .before .before .before .before .before .loop .inv) (omega arith) in search needs)
+    (λ c. entering-free (c .before .before .before .before .before .before .before .before .before .before .before .before .before .before .before .before .before .before .before .before .before .pre .1 .0) (c .before .before .before .before .before .before .before .before .before .before .before .before .loop .inv) (omega arith) (sym (c .before .before .before .before .before .before .before .before .is-free .ensures) ∙ c .before .before .before .before .before .before .before .if1 .taken) (c .before .before .before .before .write-free .ensures .0) (c .before .before .before .before .write-free .ensures .1) (c .before .before .before .before .write-free .kept .1 .1 .1 .1 .1 .1 .1 .0) (c .before .before .before .before .write-free .kept .1 .1 .1 .1 .1 .1 .1 .1 .0))
+    (λ c. let b = entering-two (c .before .before .before .before .before .before .before .before .before .before .before .before .before .before .before .pre .1 .0) (c .before .before .before .before .before .before .loop .inv) (omega arith) in let v = entering-within (c .before .before .before .before .before .before .before .before .before .before .before .before .before .before .before .pre .1 .0) (c .before .before .before .before .before .before .loop .inv) (omega arith) in let m = c .before .before .before .before .before .before .before .before .before .before .before .before .before .before .before .pre .1 .0 .scene .work-long in search needs)
+    (λ c. let b = entering-two (c .before .before .before .before .before .before .before .before .before .before .before .before .before .before .before .pre .1 .0) (c .before .before .before .before .before .before .loop .inv) (omega arith) in let v = entering-within (c .before .before .before .before .before .before .before .before .before .before .before .before .before .before .before .pre .1 .0) (c .before .before .before .before .before .before .loop .inv) (omega arith) in let m = c .before .before .before .before .before .before .before .before .before .before .before .before .before .before .before .pre .1 .0 .scene .work-long in search needs)
+    (λ c. let b = entering-two (c .before .before .before .before .before .before .before .before .before .before .before .before .before .before .before .before .pre .1 .0) (c .before .before .before .before .before .before .before .loop .inv) (omega arith) in let v = entering-within (c .before .before .before .before .before .before .before .before .before .before .before .before .before .before .before .before .pre .1 .0) (c .before .before .before .before .before .before .before .loop .inv) (omega arith) in let m = c .before .before .before .before .before .before .before .before .before .before .before .before .before .before .before .before .pre .1 .0 .scene .work-long in search needs)
+    (λ c κs. (entering-fit (c .before .before .before .before .before .before .before .before .before .before .before .before .before .before .before .before .pre .1 .0) (c .before .before .before .before .before .before .before .loop .inv) (omega arith) (sym (c .before .before .before .is-free .ensures) ∙ c .before .before .if1 .left), entering-ready (c .before .before .before .before .before .before .before .before .before .before .before .before .before .before .before .before .pre .1 .0) (c .before .before .before .before .before .before .before .loop .inv) .inside))
+    (λ c. let b = entering-two (c .before .before .before .before .before .before .before .before .before .before .before .before .before .before .before .before .before .before .before .pre .1 .0) (c .before .before .before .before .before .before .before .before .before .before .loop .inv) (omega arith) in search needs)
+    (λ c. entering-kept (c .before .before .before .before .before .before .before .before .before .before .before .before .before .before .before .before .before .before .before .pre .1 .0) (c .before .before .before .before .before .before .before .before .before .before .loop .inv) (omega arith) (sym (c .before .before .before .before .before .before .is-free .ensures) ∙ c .before .before .before .before .before .if1 .left) (c .before .before .put .ensures) (c .before .before .put .kept .0))
     (λ c. c .before .loop .inv .same-length)
     (λ c. c .before .loop .inv .opened-long)
-    (λ c. (entering-ended (c .before .before .before .before .before .before .before .before .before .pre .1 .0) (c .before .loop .inv) (omega arith), c .before .loop .inv .opened-kept)))
+    (λ c. (entering-ended (c .before .before .before .before .before .before .before .before .before .before .pre .1 .0) (c .before .loop .inv) (omega arith), c .before .loop .inv .opened-kept)))
     (λ t. write-free-lts.spec (
       find-reads.Asked,
       find-reads.Learnt,
@@ -183,6 +182,8 @@ pub +write+write-entry+write-free+write-leaf+write-node-spec : {M : Type 1} → 
       moved-reads.Learnt,
       put-reads.Asked,
       put-reads.Learnt,
+      bound-reads.Asked,
+      bound-reads.Learnt,
       write-below t,
       write.Post,
     )
@@ -204,19 +205,32 @@ pub +write+write-entry+write-free+write-leaf+write-node-spec : {M : Type 1} → 
     (λ c κs. (let n = ap length (free-moved (key-missing _ (sym (c .before .before .before .before .before .find .ensures) ∙ c .before .before .before .enum-told .given .1)) _ (c .before .before .before .before .before .before .before .before .before .before .before .before .before .pre .1 .1 .wanted)) in let f = c .before .before .before .before .before .before .before .before .before .before .before .before .before .pre .1 .1 .fit in omega arith, c .before .before .before .before .before .before .before .before .before .before .before .before .before .pre .1 .0 .inside))
     (λ c. c .before .before .put .kept .0)
     (λ c. (writes-exactly (λ ws x. free-moved (key-missing _ (sym (c .before .before .before .before .before .before .before .before .find .ensures) ∙ c .before .before .before .before .before .before .enum-told .given .1)) ws x ∙ ap (λ y. y ∷ 0 ∷ []) (sym (c .before .before .before .moved .ensures))) (c .before .before .put .ensures), refl))
-    (λ c. let v = free-falls (c .before .before .before .before .before .before .before .before .before .before .before .pre .1 .2) _ (key-found _ _ (sym (c .before .before .before .find .ensures) ∙ c .before .key .given .1)) (c .before .before .before .before .before .before .before .before .before .before .before .pre .1 .1 .wanted) in let s = c .before .before .before .before .before .before .before .before .before .before .before .pre .1 .0 .scene .code-short in let m = c .before .before .before .before .before .before .before .before .before .before .before .pre .1 .0 .scene .work-long in let q = c .before .before .before .before .before .before .before .before .before .before .before .pre .1 .0 .small in let i = c .before .before .before .before .before .before .before .before .before .before .before .pre .1 .2 .shallow in search needs)
-    (λ c. let v = free-falls (c .before .before .before .before .before .before .before .before .before .before .before .pre .1 .2) _ (key-found _ _ (sym (c .before .before .before .find .ensures) ∙ c .before .key .given .1)) (c .before .before .before .before .before .before .before .before .before .before .before .pre .1 .1 .wanted) in let s = c .before .before .before .before .before .before .before .before .before .before .before .pre .1 .0 .scene .code-short in let m = c .before .before .before .before .before .before .before .before .before .before .before .pre .1 .0 .scene .work-long in let q = c .before .before .before .before .before .before .before .before .before .before .before .pre .1 .0 .small in let i = c .before .before .before .before .before .before .before .before .before .before .before .pre .1 .2 .shallow in search needs)
-    (λ c. let v = free-falls (c .before .before .before .before .before .before .before .before .before .before .before .before .pre .1 .2) _ (key-found _ _ (sym (c .before .before .before .before .find .ensures) ∙ c .before .before .key .given .1)) (c .before .before .before .before .before .before .before .before .before .before .before .before .pre .1 .1 .wanted) in let s = c .before .before .before .before .before .before .before .before .before .before .before .before .pre .1 .0 .scene .code-short in let m = c .before .before .before .before .before .before .before .before .before .before .before .before .pre .1 .0 .scene .work-long in let q = c .before .before .before .before .before .before .before .before .before .before .before .before .pre .1 .0 .small in let i = c .before .before .before .before .before .before .before .before .before .before .before .before .pre .1 .2 .shallow in search needs)
-    (λ c. let v = free-falls (c .before .before .before .before .before .before .before .before .before .before .before .before .pre .1 .2) _ (key-found _ _ (sym (c .before .before .before .before .find .ensures) ∙ c .before .before .key .given .1)) (c .before .before .before .before .before .before .before .before .before .before .before .before .pre .1 .1 .wanted) in let s = c .before .before .before .before .before .before .before .before .before .before .before .before .pre .1 .0 .scene .code-short in let m = c .before .before .before .before .before .before .before .before .before .before .before .before .pre .1 .0 .scene .work-long in let q = c .before .before .before .before .before .before .before .before .before .before .before .before .pre .1 .0 .small in let i = c .before .before .before .before .before .before .before .before .before .before .before .before .pre .1 .2 .shallow in search needs)
-    (λ c. let v = free-falls (c .before .before .before .before .before .before .before .before .before .before .before .before .before .before .pre .1 .2) _ (key-found _ _ (sym (c .before .before .before .before .before .before .find .ensures) ∙ c .before .before .before .before .key .given .1)) (c .before .before .before .before .before .before .before .before .before .before .before .before .before .before .pre .1 .1 .wanted) in let s = c .before .before .before .before .before .before .before .before .before .before .before .before .before .before .pre .1 .0 .scene .code-short in let m = c .before .before .before .before .before .before .before .before .before .before .before .before .before .before .pre .1 .0 .scene .work-long in let q = c .before .before .before .before .before .before .before .before .before .before .before .before .before .before .pre .1 .0 .small in let i = c .before .before .before .before .before .before .before .before .before .before .before .before .before .before .pre .1 .2 .shallow in search needs)
-    (λ c. let v = free-falls (c .before .before .before .before .before .before .before .before .before .before .before .before .before .before .before .pre .1 .2) _ (key-found _ _ (sym (c .before .before .before .before .before .before .before .find .ensures) ∙ c .before .before .before .before .before .key .given .1)) (c .before .before .before .before .before .before .before .before .before .before .before .before .before .before .before .pre .1 .1 .wanted) in let s = c .before .before .before .before .before .before .before .before .before .before .before .before .before .before .before .pre .1 .0 .scene .code-short in let m = c .before .before .before .before .before .before .before .before .before .before .before .before .before .before .before .pre .1 .0 .scene .work-long in let q = c .before .before .before .before .before .before .before .before .before .before .before .before .before .before .before .pre .1 .0 .small in let i = c .before .before .before .before .before .before .before .before .before .before .before .before .before .before .before .pre .1 .2 .shallow in search needs)
-    (λ c. omega (arith, c .shared-slice-known8 .given (c .before .before .before .before .before .key .given .0 .0)))
-    (λ c. let v = free-falls (c .before .before .before .before .before .before .before .before .before .before .before .before .before .before .before .pre .1 .2) _ (key-found _ _ (sym (c .before .before .before .before .before .before .before .find .ensures) ∙ c .before .before .before .before .before .key .given .1)) (c .before .before .before .before .before .before .before .before .before .before .before .before .before .before .before .pre .1 .1 .wanted) in let s = c .before .before .before .before .before .before .before .before .before .before .before .before .before .before .before .pre .1 .0 .scene .code-short in let m = c .before .before .before .before .before .before .before .before .before .before .before .before .before .before .before .pre .1 .0 .scene .work-long in let q = c .before .before .before .before .before .before .before .before .before .before .before .before .before .before .before .pre .1 .0 .small in let i = c .before .before .before .before .before .before .before .before .before .before .before .before .before .before .before .pre .1 .2 .shallow in search needs)
-    (λ c κs. let v = free-falls (c .before .before .before .before .before .before .before .before .before .before .before .before .before .before .before .pre .1 .2) _ (key-found _ _ (sym (c .before .before .before .before .before .before .before .find .ensures) ∙ c .before .before .before .before .before .key .given .1)) (c .before .before .before .before .before .before .before .before .before .before .before .before .before .before .before .pre .1 .1 .wanted) in (falls-left _ _ _ _ t (c .before .before .before .before .before .before .before .before .before .before .before .before .before .before .before .pre .0) (omega (arith, v .1)) (omega (arith, c .shared-slice-known8 .given (c .before .before .before .before .before .key .given .0 .0))), (ready-body (c .before .before .before .before .before .before .before .before .before .before .before .before .before .before .before .pre .1 .0) _ _ (c .before .before .before .before .before .before .before .before .before .before .before .before .before .before .before .pre .1 .2 .shallow) (v .1), room-from (free-body (c .before .before .before .before .before .before .before .before .before .before .before .before .before .before .before .pre .1 .2) _ (key-found _ _ (sym (c .before .before .before .before .before .before .before .find .ensures) ∙ c .before .before .before .before .before .key .given .1)) _ (nstack-raised _ _ _ _ (c .before .before .before .before .before .before .before .before .before .before .before .before .before .before .before .pre .1 .0 .low))) (c .before .before .before .before .before .before .before .before .before .before .before .before .before .before .before .pre .1 .1))))
+    (λ c. let v = free-falls (c .before .before .before .before .before .before .before .before .before .before .before .pre .1 .2) _ (key-found _ _ (sym (c .before .before .before .find .ensures) ∙ c .before .key .given .1)) (c .before .before .before .before .before .before .before .before .before .before .before .pre .1 .1 .wanted) in let s = c .before .before .before .before .before .before .before .before .before .before .before .pre .1 .0 .scene .code-short in let m = c .before .before .before .before .before .before .before .before .before .before .before .pre .1 .0 .scene .work-long in search needs)
+    (λ c. let v = free-falls (c .before .before .before .before .before .before .before .before .before .before .before .before .pre .1 .2) _ (key-found _ _ (sym (c .before .before .before .before .find .ensures) ∙ c .before .before .key .given .1)) (c .before .before .before .before .before .before .before .before .before .before .before .before .pre .1 .1 .wanted) in let s = c .before .before .before .before .before .before .before .before .before .before .before .before .pre .1 .0 .scene .code-short in let m = c .before .before .before .before .before .before .before .before .before .before .before .before .pre .1 .0 .scene .work-long in search needs)
+    (λ c. omega (arith, c .shared-slice-known7 .given (c .before .before .key .given .0 .0)))
+    (λ c. let a = tree-root (body-tree (c .before .before .before .before .before .before .before .before .before .before .before .before .pre .1 .0) (c .before .before .before .before .before .before .before .before .before .before .before .before .pre .1 .2) (key-found _ _ (sym (c .before .before .before .before .find .ensures) ∙ c .before .before .key .given .1)) refl _ (c .before .before .before .before .before .before .before .before .before .before .before .before .pre .1 .1 .wanted)) .within in let s = c .before .before .before .before .before .before .before .before .before .before .before .before .pre .1 .0 .scene .code-short in search needs)
+    (λ c. let a = tree-root (body-tree (c .before .before .before .before .before .before .before .before .before .before .before .before .before .pre .1 .0) (c .before .before .before .before .before .before .before .before .before .before .before .before .before .pre .1 .2) (key-found _ _ (sym (c .before .before .before .before .before .find .ensures) ∙ c .before .before .before .key .given .1)) refl _ (c .before .before .before .before .before .before .before .before .before .before .before .before .before .pre .1 .1 .wanted)) .within in let s = c .before .before .before .before .before .before .before .before .before .before .before .before .before .pre .1 .0 .scene .code-short in search needs)
+    (λ c. let b = tree-bound (c .before .if1 .taken) (body-tree (c .before .before .before .before .before .before .before .before .before .before .before .before .before .before .before .pre .1 .0) (c .before .before .before .before .before .before .before .before .before .before .before .before .before .before .before .pre .1 .2) (key-found _ _ (sym (c .before .before .before .before .before .before .before .find .ensures) ∙ c .before .before .before .before .before .key .given .1)) refl _ (c .before .before .before .before .before .before .before .before .before .before .before .before .before .before .before .pre .1 .1 .wanted)) .within in let s = c .before .before .before .before .before .before .before .before .before .before .before .before .before .before .before .pre .1 .0 .scene .code-short in search needs)
+    (λ c. let b = tree-bound (c .before .if1 .taken) (body-tree (c .before .before .before .before .before .before .before .before .before .before .before .before .before .before .before .pre .1 .0) (c .before .before .before .before .before .before .before .before .before .before .before .before .before .before .before .pre .1 .2) (key-found _ _ (sym (c .before .before .before .before .before .before .before .find .ensures) ∙ c .before .before .before .before .before .key .given .1)) refl _ (c .before .before .before .before .before .before .before .before .before .before .before .before .before .before .before .pre .1 .1 .wanted)) .within in let s = c .before .before .before .before .before .before .before .before .before .before .before .before .before .before .before .pre .1 .0 .scene .code-short in search needs)
+    (λ c. let b = tree-bound (c .before .before .if1 .taken) (body-tree (c .before .before .before .before .before .before .before .before .before .before .before .before .before .before .before .before .pre .1 .0) (c .before .before .before .before .before .before .before .before .before .before .before .before .before .before .before .before .pre .1 .2) (key-found _ _ (sym (c .before .before .before .before .before .before .before .before .find .ensures) ∙ c .before .before .before .before .before .before .key .given .1)) refl _ (c .before .before .before .before .before .before .before .before .before .before .before .before .before .before .before .before .pre .1 .1 .wanted)) .within in let s = c .before .before .before .before .before .before .before .before .before .before .before .before .before .before .before .before .pre .1 .0 .scene .code-short in search needs)
+    (λ c. let v = free-falls (c .before .before .before .before .before .before .before .before .before .before .before .before .before .before .before .before .before .pre .1 .2) _ (key-found _ _ (sym (c .before .before .before .before .before .before .before .before .before .find .ensures) ∙ c .before .before .before .before .before .before .before .key .given .1)) (c .before .before .before .before .before .before .before .before .before .before .before .before .before .before .before .before .before .pre .1 .1 .wanted) in let s = c .before .before .before .before .before .before .before .before .before .before .before .before .before .before .before .before .before .pre .1 .0 .scene .code-short in let m = c .before .before .before .before .before .before .before .before .before .before .before .before .before .before .before .before .before .pre .1 .0 .scene .work-long in let q = c .before .before .before .before .before .before .before .before .before .before .before .before .before .before .before .before .before .pre .1 .0 .small in let i = c .before .before .before .before .before .before .before .before .before .before .before .before .before .before .before .before .before .pre .1 .2 .shallow in search needs)
+    (λ c κs. ready-bound (body-ready (c .before .before .before .before .before .before .before .before .before .before .before .before .before .before .before .before .before .pre .1 .0) (c .before .before .before .before .before .before .before .before .before .before .before .before .before .before .before .before .before .pre .1 .2) (key-found _ _ (sym (c .before .before .before .before .before .before .before .before .before .find .ensures) ∙ c .before .before .before .before .before .before .before .key .given .1)) (omega arith) (c .before .before .before .before .before .before .before .before .before .before .before .before .before .before .before .before .before .pre .1 .1 .wanted)) (tree-bound (c .before .before .before .if1 .taken) (body-tree (c .before .before .before .before .before .before .before .before .before .before .before .before .before .before .before .before .before .pre .1 .0) (c .before .before .before .before .before .before .before .before .before .before .before .before .before .before .before .before .before .pre .1 .2) (key-found _ _ (sym (c .before .before .before .before .before .before .before .before .before .find .ensures) ∙ c .before .before .before .before .before .before .before .key .given .1)) refl _ (c .before .before .before .before .before .before .before .before .before .before .before .before .before .before .before .before .before .pre .1 .1 .wanted)) .low))
+    (λ c κs. (bound-fits (c .before .before .before .before .before .before .before .before .before .before .before .before .before .before .before .before .before .before .args .opened .now) (c .before .before .before .before .if1 .taken) (room-from (body-tree (c .before .before .before .before .before .before .before .before .before .before .before .before .before .before .before .before .before .before .pre .1 .0) (c .before .before .before .before .before .before .before .before .before .before .before .before .before .before .before .before .before .before .pre .1 .2) (key-found _ _ (sym (c .before .before .before .before .before .before .before .before .before .before .find .ensures) ∙ c .before .before .before .before .before .before .before .before .key .given .1)) refl) (c .before .before .before .before .before .before .before .before .before .before .before .before .before .before .before .before .before .before .pre .1 .1)), c .before .before .before .before .before .before .before .before .before .before .before .before .before .before .before .before .before .before .pre .1 .0 .inside))
+    (λ c. c .before .before .put2 .kept .0)
+    (λ c. search needs)
+    (λ c. (writes-from (body-tree (c .before .before .before .before .before .before .before .before .before .before .before .before .before .before .before .before .before .before .before .before .before .pre .1 .0) (c .before .before .before .before .before .before .before .before .before .before .before .before .before .before .before .before .before .before .before .before .before .pre .1 .2) (key-found _ _ (sym (c .before .before .before .before .before .before .before .before .before .before .before .before .before .find .ensures) ∙ c .before .before .before .before .before .before .before .before .before .before .before .key .given .1)) refl) (bound-written (c .before .before .before .before .before .before .before .before .before .before .before .before .before .before .before .before .before .before .before .before .before .args .opened .now) (c .before .before .before .before .before .before .before .if1 .taken) (c .before .before .before .bound .ensures) (c .before .before .put2 .ensures)), refl))
+    (λ c. let v = free-falls (c .before .before .before .before .before .before .before .before .before .before .before .before .before .before .before .before .pre .1 .2) _ (key-found _ _ (sym (c .before .before .before .before .before .before .before .before .find .ensures) ∙ c .before .before .before .before .before .before .key .given .1)) (c .before .before .before .before .before .before .before .before .before .before .before .before .before .before .before .before .pre .1 .1 .wanted) in let s = c .before .before .before .before .before .before .before .before .before .before .before .before .before .before .before .before .pre .1 .0 .scene .code-short in let m = c .before .before .before .before .before .before .before .before .before .before .before .before .before .before .before .before .pre .1 .0 .scene .work-long in let q = c .before .before .before .before .before .before .before .before .before .before .before .before .before .before .before .before .pre .1 .0 .small in let i = c .before .before .before .before .before .before .before .before .before .before .before .before .before .before .before .before .pre .1 .2 .shallow in search needs)
+    (λ c. let v = free-falls (c .before .before .before .before .before .before .before .before .before .before .before .before .before .before .before .before .pre .1 .2) _ (key-found _ _ (sym (c .before .before .before .before .before .before .before .before .find .ensures) ∙ c .before .before .before .before .before .before .key .given .1)) (c .before .before .before .before .before .before .before .before .before .before .before .before .before .before .before .before .pre .1 .1 .wanted) in let s = c .before .before .before .before .before .before .before .before .before .before .before .before .before .before .before .before .pre .1 .0 .scene .code-short in let m = c .before .before .before .before .before .before .before .before .before .before .before .before .before .before .before .before .pre .1 .0 .scene .work-long in let q = c .before .before .before .before .before .before .before .before .before .before .before .before .before .before .before .before .pre .1 .0 .small in let i = c .before .before .before .before .before .before .before .before .before .before .before .before .before .before .before .before .pre .1 .2 .shallow in search needs)
+    (λ c. let v = free-falls (c .before .before .before .before .before .before .before .before .before .before .before .before .before .before .before .before .pre .1 .2) _ (key-found _ _ (sym (c .before .before .before .before .before .before .before .before .find .ensures) ∙ c .before .before .before .before .before .before .key .given .1)) (c .before .before .before .before .before .before .before .before .before .before .before .before .before .before .before .before .pre .1 .1 .wanted) in let s = c .before .before .before .before .before .before .before .before .before .before .before .before .before .before .before .before .pre .1 .0 .scene .code-short in let m = c .before .before .before .before .before .before .before .before .before .before .before .before .before .before .before .before .pre .1 .0 .scene .work-long in let q = c .before .before .before .before .before .before .before .before .before .before .before .before .before .before .before .before .pre .1 .0 .small in let i = c .before .before .before .before .before .before .before .before .before .before .before .before .before .before .before .before .pre .1 .2 .shallow in search needs)
+    (λ c. let v = free-falls (c .before .before .before .before .before .before .before .before .before .before .before .before .before .before .before .before .before .pre .1 .2) _ (key-found _ _ (sym (c .before .before .before .before .before .before .before .before .before .find .ensures) ∙ c .before .before .before .before .before .before .before .key .given .1)) (c .before .before .before .before .before .before .before .before .before .before .before .before .before .before .before .before .before .pre .1 .1 .wanted) in let s = c .before .before .before .before .before .before .before .before .before .before .before .before .before .before .before .before .before .pre .1 .0 .scene .code-short in let m = c .before .before .before .before .before .before .before .before .before .before .before .before .before .before .before .before .before .pre .1 .0 .scene .work-long in let q = c .before .before .before .before .before .before .before .before .before .before .before .before .before .before .before .before .before .pre .1 .0 .small in let i = c .before .before .before .before .before .before .before .before .before .before .before .before .before .before .before .before .before .pre .1 .2 .shallow in search needs)
+    (λ c. let v = free-falls (c .before .before .before .before .before .before .before .before .before .before .before .before .before .before .before .before .before .pre .1 .2) _ (key-found _ _ (sym (c .before .before .before .before .before .before .before .before .before .find .ensures) ∙ c .before .before .before .before .before .before .before .key .given .1)) (c .before .before .before .before .before .before .before .before .before .before .before .before .before .before .before .before .before .pre .1 .1 .wanted) in let s = c .before .before .before .before .before .before .before .before .before .before .before .before .before .before .before .before .before .pre .1 .0 .scene .code-short in let m = c .before .before .before .before .before .before .before .before .before .before .before .before .before .before .before .before .before .pre .1 .0 .scene .work-long in let q = c .before .before .before .before .before .before .before .before .before .before .before .before .before .before .before .before .before .pre .1 .0 .small in let i = c .before .before .before .before .before .before .before .before .before .before .before .before .before .before .before .before .before .pre .1 .2 .shallow in search needs)
+    (λ c κs. let v = free-falls (c .before .before .before .before .before .before .before .before .before .before .before .before .before .before .before .before .before .pre .1 .2) _ (key-found _ _ (sym (c .before .before .before .before .before .before .before .before .before .find .ensures) ∙ c .before .before .before .before .before .before .before .key .given .1)) (c .before .before .before .before .before .before .before .before .before .before .before .before .before .before .before .before .before .pre .1 .1 .wanted) in let a = tree-root (body-tree (c .before .before .before .before .before .before .before .before .before .before .before .before .before .before .before .before .before .pre .1 .0) (c .before .before .before .before .before .before .before .before .before .before .before .before .before .before .before .before .before .pre .1 .2) (key-found _ _ (sym (c .before .before .before .before .before .before .before .before .before .find .ensures) ∙ c .before .before .before .before .before .before .before .key .given .1)) refl _ (c .before .before .before .before .before .before .before .before .before .before .before .before .before .before .before .before .before .pre .1 .1 .wanted)) .within in let s = c .before .before .before .before .before .before .before .before .before .before .before .before .before .before .before .before .before .pre .1 .0 .scene .code-short in (falls-left _ _ _ _ t (c .before .before .before .before .before .before .before .before .before .before .before .before .before .before .before .before .before .pre .0) (omega (arith, v .1)) (omega arith), (body-ready (c .before .before .before .before .before .before .before .before .before .before .before .before .before .before .before .before .before .pre .1 .0) (c .before .before .before .before .before .before .before .before .before .before .before .before .before .before .before .before .before .pre .1 .2) (key-found _ _ (sym (c .before .before .before .before .before .before .before .before .before .find .ensures) ∙ c .before .before .before .before .before .before .before .key .given .1)) (omega arith) (c .before .before .before .before .before .before .before .before .before .before .before .before .before .before .before .before .before .pre .1 .1 .wanted), room-from (body-trees (c .before .before .before .before .before .before .before .before .before .before .before .before .before .before .before .before .before .pre .1 .0) (c .before .before .before .before .before .before .before .before .before .before .before .before .before .before .before .before .before .pre .1 .2) (key-found _ _ (sym (c .before .before .before .before .before .before .before .before .before .find .ensures) ∙ c .before .before .before .before .before .before .before .key .given .1)) (omega arith)) (c .before .before .before .before .before .before .before .before .before .before .before .before .before .before .before .before .before .pre .1 .1))))
     (λ c. c .before .before .before .before .write .kept .1 .1 .1 .1 .0)
     (λ c. c .before .before .before .before .write .kept .1 .1 .1 .1 .1 .0)
-    (λ c. (writes-from (free-body (c .before .before .before .before .before .before .before .before .before .before .before .before .before .before .before .before .before .before .before .before .pre .1 .2) _ (key-found _ _ (sym (c .before .before .before .before .before .before .before .before .before .before .before .before .find .ensures) ∙ c .before .before .before .before .before .before .before .before .before .before .key .given .1)) _ (nstack-raised _ _ _ _ (c .before .before .before .before .before .before .before .before .before .before .before .before .before .before .before .before .before .before .before .before .pre .1 .0 .low))) (c .before .before .before .before .write .ensures .0), c .before .before .before .before .write .ensures .1)))
+    (λ c. (writes-from (body-trees (c .before .before .before .before .before .before .before .before .before .before .before .before .before .before .before .before .before .before .before .before .before .before .pre .1 .0) (c .before .before .before .before .before .before .before .before .before .before .before .before .before .before .before .before .before .before .before .before .before .before .pre .1 .2) (key-found _ _ (sym (c .before .before .before .before .before .before .before .before .before .before .before .before .before .before .find .ensures) ∙ c .before .before .before .before .before .before .before .before .before .before .before .before .key .given .1)) (omega arith)) (c .before .before .before .before .write .ensures .0), c .before .before .before .before .write .ensures .1)))
     (λ t. write-leaf-lts.spec (
+      bound-reads.Asked,
+      bound-reads.Learnt,
       put-reads.Asked,
       put-reads.Learnt,
       moves-nothing-reads.Asked,
@@ -233,16 +247,11 @@ pub +write+write-entry+write-free+write-leaf+write-node-spec : {M : Type 1} → 
     (λ c. let a = leaf-within (c .before .before .before .before .before .before .before .pre .1 .2) (c .before .before .before .before .before .before .before .pre .1 .1 .wanted) in let s = c .before .before .before .before .before .before .before .pre .1 .0 .scene .code-short in let m = c .before .before .before .before .before .before .before .pre .1 .0 .scene .work-long in search needs)
     (λ c. let a = leaf-within (c .before .before .before .before .before .before .before .pre .1 .2) (c .before .before .before .before .before .before .before .pre .1 .1 .wanted) in let s = c .before .before .before .before .before .before .before .pre .1 .0 .scene .code-short in let m = c .before .before .before .before .before .before .before .pre .1 .0 .scene .work-long in search needs)
     (λ c. let a = leaf-within (c .before .before .before .before .before .before .before .before .pre .1 .2) (c .before .before .before .before .before .before .before .before .pre .1 .1 .wanted) in let s = c .before .before .before .before .before .before .before .before .pre .1 .0 .scene .code-short in let m = c .before .before .before .before .before .before .before .before .pre .1 .0 .scene .work-long in search needs)
-    (λ c. let b = tree-bound (c .if1 .taken) (c .before .before .before .before .before .before .before .before .before .pre .1 .1 .wanted) .low in let n = c .before .before .before .before .before .before .before .before .before .pre .1 .0 .long in let k = c .before .before .before .before .before .before .before .before .before .pre .1 .0 .lambdas in search needs)
-    (λ c. let b = tree-bound (c .if1 .taken) (c .before .before .before .before .before .before .before .before .before .pre .1 .1 .wanted) .low in let n = c .before .before .before .before .before .before .before .before .before .pre .1 .0 .long in let k = c .before .before .before .before .before .before .before .before .before .pre .1 .0 .lambdas in search needs)
-    (λ c. let b = tree-bound (c .if1 .taken) (c .before .before .before .before .before .before .before .before .before .pre .1 .1 .wanted) .low in let n = c .before .before .before .before .before .before .before .before .before .pre .1 .0 .long in let k = c .before .before .before .before .before .before .before .before .before .pre .1 .0 .lambdas in search needs)
-    (λ c. let b = tree-bound (c .if1 .taken) (c .before .before .before .before .before .before .before .before .before .pre .1 .1 .wanted) .low in let n = c .before .before .before .before .before .before .before .before .before .pre .1 .0 .long in let k = c .before .before .before .before .before .before .before .before .before .pre .1 .0 .lambdas in search needs)
-    (λ c. let b = tree-bound (c .before .if1 .taken) (c .before .before .before .before .before .before .before .before .before .before .pre .1 .1 .wanted) .low in let n = c .before .before .before .before .before .before .before .before .before .before .pre .1 .0 .long in let k = c .before .before .before .before .before .before .before .before .before .before .pre .1 .0 .lambdas in search needs)
-    (λ c. let b = tree-bound (c .before .before .if1 .taken) (c .before .before .before .before .before .before .before .before .before .before .before .pre .1 .1 .wanted) .low in let n = c .before .before .before .before .before .before .before .before .before .before .before .pre .1 .0 .long in let k = c .before .before .before .before .before .before .before .before .before .before .before .pre .1 .0 .lambdas in let q = c .before .before .before .before .before .before .before .before .before .before .before .pre .1 .0 .low (c .before .before .before .before .before .before .before .before .before .before .before .args .l - 1 - getD (c .before .before .before .before .before .before .before .before .before .before .before .args .code .now) (c .before .before .before .before .before .before .before .before .before .before .before .args .at + 1) 0) (omega arith) in search needs)
-    (λ c. let b = tree-bound (c .before .before .if1 .taken) (c .before .before .before .before .before .before .before .before .before .before .before .pre .1 .1 .wanted) .low in let n = c .before .before .before .before .before .before .before .before .before .before .before .pre .1 .0 .long in let k = c .before .before .before .before .before .before .before .before .before .before .before .pre .1 .0 .lambdas in let q = c .before .before .before .before .before .before .before .before .before .before .before .pre .1 .0 .small in search needs)
-    (λ c κs. (bound-fits (c .before .before .before .before .before .before .before .before .before .before .before .args .opened .now) (c .before .before .if1 .taken) (c .before .before .before .before .before .before .before .before .before .before .before .pre .1 .1), c .before .before .before .before .before .before .before .before .before .before .before .pre .1 .0 .inside))
+    (λ c κs. ready-bound (c .before .before .before .before .before .before .before .before .before .before .before .pre .1 .0) (tree-bound (c .before .before .if1 .taken) (c .before .before .before .before .before .before .before .before .before .before .before .pre .1 .1 .wanted) .low))
+    (λ c κs. (bound-fits (c .before .before .before .before .before .before .before .before .before .before .before .before .args .opened .now) (c .before .before .before .if1 .taken) (c .before .before .before .before .before .before .before .before .before .before .before .before .pre .1 .1), c .before .before .before .before .before .before .before .before .before .before .before .before .pre .1 .0 .inside))
     (λ c. c .before .before .put .kept .0)
-    (λ c. (bound-written (c .before .before .before .before .before .before .before .before .before .before .before .before .before .before .args .opened .now) (c .before .before .before .before .before .if1 .taken) (c .before .before .put .ensures), refl))
+    (λ c. search needs)
+    (λ c. (bound-written (c .before .before .before .before .before .before .before .before .before .before .before .before .before .before .before .args .opened .now) (c .before .before .before .before .before .before .if1 .taken) (c .before .before .before .bound .ensures) (c .before .before .put .ensures), refl))
     (λ c. let n = tree-named (c .before .before .before .before .before .before .before .before .before .pre .1 .2) (c .if1 .left) (c .before .before .before .before .before .before .before .before .before .pre .1 .1 .wanted) in let v = named-part (c .before .before .before .before .before .before .before .before .before .pre .1 .0 .scene) n in let s = c .before .before .before .before .before .before .before .before .before .pre .1 .0 .scene .code-short in let m = c .before .before .before .before .before .before .before .before .before .pre .1 .0 .scene .work-long in let k = c .before .before .before .before .before .before .before .before .before .pre .1 .0 .scene .entries-few in search needs)
     (λ c. let n = tree-named (c .before .before .before .before .before .before .before .before .before .pre .1 .2) (c .if1 .left) (c .before .before .before .before .before .before .before .before .before .pre .1 .1 .wanted) in let v = named-part (c .before .before .before .before .before .before .before .before .before .pre .1 .0 .scene) n in let s = c .before .before .before .before .before .before .before .before .before .pre .1 .0 .scene .code-short in let m = c .before .before .before .before .before .before .before .before .before .pre .1 .0 .scene .work-long in let k = c .before .before .before .before .before .before .before .before .before .pre .1 .0 .scene .entries-few in search needs)
     (λ c. let n = tree-named (c .before .before .before .before .before .before .before .before .before .pre .1 .2) (c .if1 .left) (c .before .before .before .before .before .before .before .before .before .pre .1 .1 .wanted) in let v = named-part (c .before .before .before .before .before .before .before .before .before .pre .1 .0 .scene) n in let s = c .before .before .before .before .before .before .before .before .before .pre .1 .0 .scene .code-short in let m = c .before .before .before .before .before .before .before .before .before .pre .1 .0 .scene .work-long in let k = c .before .before .before .before .before .before .before .before .before .pre .1 .0 .scene .entries-few in search needs)
@@ -261,33 +270,45 @@ pub +write+write-entry+write-free+write-leaf+write-node-spec : {M : Type 1} → 
     (λ c κs. (let n = ap length (copied-words (c .before .before .before .before .before .before .before .before .before .before .before .before .before .before .before .pre .1 .2) (c .before .before .before .before .before .before .if1 .left) (c .before .before .before .before .before .before .before .before .before .before .before .before .before .before .before .pre .1 .0 .scene) (sym (c .before .before .before .moves-nothing .ensures) ∙ c .before .before .if2 .taken) _ _ refl refl _ (c .before .before .before .before .before .before .before .before .before .before .before .before .before .before .before .pre .1 .1 .wanted)) in let f = c .before .before .before .before .before .before .before .before .before .before .before .before .before .before .before .pre .1 .1 .fit in omega arith, c .before .before .before .before .before .before .before .before .before .before .before .before .before .before .before .pre .1 .0 .inside))
     (λ c. c .before .before .copy .kept .1 .0)
     (λ c. (writes-exactly (copied-words (c .before .before .before .before .before .before .before .before .before .before .before .before .before .before .before .before .before .before .pre .1 .2) (c .before .before .before .before .before .before .before .before .before .if1 .left) (c .before .before .before .before .before .before .before .before .before .before .before .before .before .before .before .before .before .before .pre .1 .0 .scene) (sym (c .before .before .before .before .before .before .moves-nothing .ensures) ∙ c .before .before .before .before .before .if2 .taken) _ _ refl refl) (c .before .before .copy .ensures), refl))
-    (λ c κs. (falls-right _ _ _ t (c .before .before .before .before .before .before .before .before .before .before .before .before .before .before .before .pre .0) (omega arith), (c .before .before .before .before .before .before .before .before .before .before .before .before .before .before .before .pre .1 .0, c .before .before .before .before .before .before .before .before .before .before .before .before .before .before .before .pre .1 .1, tree-pushed (c .before .before .before .before .before .before .before .before .before .before .before .before .before .before .before .pre .1 .2) (c .before .before .before .before .before .before .if1 .left) (c .before .before .before .before .before .before .before .before .before .before .before .before .before .before .before .pre .1 .1 .wanted) (moves-pushed _ _ _ (sym (c .before .before .if2 .left) ∙ c .before .before .before .moves-nothing .ensures)) .op, refl, refl)))
-    (λ c. c .before .before .before .before .write-entry .kept .1 .1 .1 .1 .0)
-    (λ c. c .before .before .before .before .write-entry .kept .1 .1 .1 .1 .1 .0)
+    (λ c. let n = tree-named (c .before .before .before .before .before .before .before .before .before .before .before .before .before .pre .1 .2) (c .before .before .before .before .if1 .left) (c .before .before .before .before .before .before .before .before .before .before .before .before .before .pre .1 .1 .wanted) in let v = named-part (c .before .before .before .before .before .before .before .before .before .before .before .before .before .pre .1 .0 .scene) n in let s = c .before .before .before .before .before .before .before .before .before .before .before .before .before .pre .1 .0 .scene .code-short in let m = c .before .before .before .before .before .before .before .before .before .before .before .before .before .pre .1 .0 .scene .work-long in let k = c .before .before .before .before .before .before .before .before .before .before .before .before .before .pre .1 .0 .scene .entries-few in search needs)
+    (λ c. let n = tree-named (c .before .before .before .before .before .before .before .before .before .before .before .before .before .pre .1 .2) (c .before .before .before .before .if1 .left) (c .before .before .before .before .before .before .before .before .before .before .before .before .before .pre .1 .1 .wanted) in let v = named-part (c .before .before .before .before .before .before .before .before .before .before .before .before .before .pre .1 .0 .scene) n in let s = c .before .before .before .before .before .before .before .before .before .before .before .before .before .pre .1 .0 .scene .code-short in let m = c .before .before .before .before .before .before .before .before .before .before .before .before .before .pre .1 .0 .scene .work-long in let k = c .before .before .before .before .before .before .before .before .before .before .before .before .before .pre .1 .0 .scene .entries-few in search needs)
+    (λ c. let n = tree-named (c .before .before .before .before .before .before .before .before .before .before .before .before .before .pre .1 .2) (c .before .before .before .before .if1 .left) (c .before .before .before .before .before .before .before .before .before .before .before .before .before .pre .1 .1 .wanted) in let v = named-part (c .before .before .before .before .before .before .before .before .before .before .before .before .before .pre .1 .0 .scene) n in let s = c .before .before .before .before .before .before .before .before .before .before .before .before .before .pre .1 .0 .scene .code-short in let m = c .before .before .before .before .before .before .before .before .before .before .before .before .before .pre .1 .0 .scene .work-long in let k = c .before .before .before .before .before .before .before .before .before .before .before .before .before .pre .1 .0 .scene .entries-few in search needs)
+    (λ c. let n = tree-named (c .before .before .before .before .before .before .before .before .before .before .before .before .before .pre .1 .2) (c .before .before .before .before .if1 .left) (c .before .before .before .before .before .before .before .before .before .before .before .before .before .pre .1 .1 .wanted) in let v = named-part (c .before .before .before .before .before .before .before .before .before .before .before .before .before .pre .1 .0 .scene) n in let s = c .before .before .before .before .before .before .before .before .before .before .before .before .before .pre .1 .0 .scene .code-short in let m = c .before .before .before .before .before .before .before .before .before .before .before .before .before .pre .1 .0 .scene .work-long in let k = c .before .before .before .before .before .before .before .before .before .before .before .before .before .pre .1 .0 .scene .entries-few in search needs)
+    (λ c. let n = tree-named (c .before .before .before .before .before .before .before .before .before .before .before .before .before .before .pre .1 .2) (c .before .before .before .before .before .if1 .left) (c .before .before .before .before .before .before .before .before .before .before .before .before .before .before .pre .1 .1 .wanted) in let v = named-part (c .before .before .before .before .before .before .before .before .before .before .before .before .before .before .pre .1 .0 .scene) n in let s = c .before .before .before .before .before .before .before .before .before .before .before .before .before .before .pre .1 .0 .scene .code-short in let m = c .before .before .before .before .before .before .before .before .before .before .before .before .before .before .pre .1 .0 .scene .work-long in let k = c .before .before .before .before .before .before .before .before .before .before .before .before .before .before .pre .1 .0 .scene .entries-few in let f = c .before .before .before .before .before .before .before .before .before .before .before .before .before .before .pre .1 .0 .scene .few in search needs)
+    (λ c κs. (falls-right _ _ _ t (c .before .before .before .before .before .before .before .before .before .before .before .before .before .before .before .before .pre .0) (omega arith), (c .before .before .before .before .before .before .before .before .before .before .before .before .before .before .before .before .pre .1 .0, c .before .before .before .before .before .before .before .before .before .before .before .before .before .before .before .before .pre .1 .1, tree-pushed (c .before .before .before .before .before .before .before .before .before .before .before .before .before .before .before .before .pre .1 .2) (c .before .before .before .before .before .before .before .if1 .left) (c .before .before .before .before .before .before .before .before .before .before .before .before .before .before .before .before .pre .1 .1 .wanted) (moves-pushed _ _ _ (sym (c .before .before .before .if2 .left) ∙ c .before .before .before .before .moves-nothing .ensures)) .op, record { part-is = refl; places-are = refl })))
+    (λ c. c .before .before .before .before .write-entry .kept .1 .1 .1 .1 .1 .1 .1 .0)
+    (λ c. c .before .before .before .before .write-entry .kept .1 .1 .1 .1 .1 .1 .1 .1 .0)
     (λ c. c .before .before .before .before .write-entry .ensures))
-    λ t. write-node-lts.spec
-    (write-below t, write.Post, put-reads.Asked, put-reads.Learnt)
+    λ t. write-node-lts.spec (
+      arguments-reads.Asked,
+      arguments-reads.Learnt,
+      head-reads.Asked,
+      head-reads.Learnt,
+      put-reads.Asked,
+      put-reads.Learnt,
+      over-reads.Asked,
+      over-reads.Learnt,
+      inner-reads.Asked,
+      inner-reads.Learnt,
+      write-below t,
+      write.Post,
+    )
     (write-node-at t)
     write-node.Post
-    (λ c. let a = tree-root (c .before .before .before .before .before .before .pre .1 .1 .wanted) .within in let s = c .before .before .before .before .before .before .pre .1 .0 .scene .code-short in search needs)
-    (λ c. let a = tree-root (c .before .before .before .before .before .before .before .pre .1 .1 .wanted) .within in let s = c .before .before .before .before .before .before .before .pre .1 .0 .scene .code-short in search needs)
-    (λ c. let a = tree-cell (c .if1 .taken) (c .before .before .before .before .before .before .before .before .pre .1 .1 .wanted) in let s = c .before .before .before .before .before .before .before .before .pre .1 .0 .scene .code-short in search needs)
-    (λ c. let a = tree-cell (c .if1 .taken) (c .before .before .before .before .before .before .before .before .pre .1 .1 .wanted) in let s = c .before .before .before .before .before .before .before .before .pre .1 .0 .scene .code-short in search needs)
-    (λ c. let a = tree-cell (c .before .if1 .taken) (c .before .before .before .before .before .before .before .before .before .pre .1 .1 .wanted) in let s = c .before .before .before .before .before .before .before .before .before .pre .1 .0 .scene .code-short in search needs)
-    (λ c κs. (falls-right _ _ _ t (c .before .before .before .before .before .before .before .before .before .before .before .pre .0) (let a = tree-root (c .before .before .before .before .before .before .before .before .before .before .before .pre .1 .1 .wanted) .over in let b = c .before .before .before .before .before .before .before .before .before .before .before .pre .1 .3 in omega arith), (c .before .before .before .before .before .before .before .before .before .before .before .pre .1 .0, room-last (cell-parts _ (c .before .before .before .before .before .before .before .before .before .before .before .pre .1 .3) (c .before .before .before .if1 .taken)) (c .before .before .before .before .before .before .before .before .before .before .before .pre .1 .1))))
-    (λ c. let a = tree-cell (c .before .before .before .before .before .before .before .before .before .if1 .taken) (c .before .before .before .before .before .before .before .before .before .before .before .before .before .before .before .before .before .pre .1 .1 .wanted) in let s = c .before .before .before .before .before .before .before .before .before .before .before .before .before .before .before .before .before .pre .1 .0 .scene .code-short in search needs)
-    (λ c. let a = tree-cell (c .before .before .before .before .before .before .before .before .before .if1 .taken) (c .before .before .before .before .before .before .before .before .before .before .before .before .before .before .before .before .before .pre .1 .1 .wanted) in let s = c .before .before .before .before .before .before .before .before .before .before .before .before .before .before .before .before .before .pre .1 .0 .scene .code-short in search needs)
-    (λ c. let a = tree-cell (c .before .before .before .before .before .before .before .before .before .before .if1 .taken) (c .before .before .before .before .before .before .before .before .before .before .before .before .before .before .before .before .before .before .pre .1 .1 .wanted) in let s = c .before .before .before .before .before .before .before .before .before .before .before .before .before .before .before .before .before .before .pre .1 .0 .scene .code-short in search needs)
-    (λ c. let a = tree-cell (c .before .before .before .before .before .before .before .before .before .before .if1 .taken) (c .before .before .before .before .before .before .before .before .before .before .before .before .before .before .before .before .before .before .pre .1 .1 .wanted) in let s = c .before .before .before .before .before .before .before .before .before .before .before .before .before .before .before .before .before .before .pre .1 .0 .scene .code-short in search needs)
-    (λ c κs. let f = two-fit (cell-parts _ (c .before .before .before .before .before .before .before .before .before .before .before .before .before .before .before .before .before .before .pre .1 .3) (c .before .before .before .before .before .before .before .before .before .before .if1 .taken)) (c .before .before .before .before .before .before .before .before .before .before .before .before .before .before .before .before .before .before .pre .1 .1) (c .before .before .before .before .before .before .write .ensures .0) in let i = c .before .before .before .before .before .before .before .before .before .before .before .before .before .before .before .before .before .before .pre .1 .0 .inside in let n = c .before .before .before .before .before .before .write .kept .1 .1 .1 .1 .0 in (f .0, omega (arith, f .1)))
-    (λ c. c .before .before .put .kept .0 ∙ c .before .before .before .before .before .before .before .before .before .write .kept .1 .1 .1 .1 .0)
-    (λ c. c .before .before .before .before .before .before .before .before .before .write .kept .1 .1 .1 .1 .1 .0)
-    (λ c. (two-written (cell-parts _ (c .before .before .before .before .before .before .before .before .before .before .before .before .before .before .before .before .before .before .before .before .before .pre .1 .3) (c .before .before .before .before .before .before .before .before .before .before .before .before .before .if1 .taken)) (c .before .before .before .before .before .before .before .before .before .write .ensures .0) (c .before .before .put .ensures), c .before .before .before .before .before .before .before .before .before .write .ensures .1))
-    (λ c. let b = tree-block (c .before .before .before .before .before .before .before .before .pre .1 .2) (c .if1 .left) (c .before .before .before .before .before .before .before .before .pre .1 .1 .wanted) in let n = c .before .before .before .before .before .before .before .before .pre .1 .0 .long in search needs)
-    (λ c. let b = tree-block (c .before .before .before .before .before .before .before .before .pre .1 .2) (c .if1 .left) (c .before .before .before .before .before .before .before .before .pre .1 .1 .wanted) in let n = c .before .before .before .before .before .before .before .before .pre .1 .0 .long in search needs)
-    (λ c. let b = tree-block (c .before .before .before .before .before .before .before .before .before .before .pre .1 .2) (c .before .before .if1 .left) (c .before .before .before .before .before .before .before .before .before .before .pre .1 .1 .wanted) in let n = c .before .before .before .before .before .before .before .before .before .before .pre .1 .0 .long in search needs)
-    (λ c κs. let b = tree-block (c .before .before .before .before .before .before .before .before .before .before .pre .1 .2) (c .before .before .if1 .left) (c .before .before .before .before .before .before .before .before .before .before .pre .1 .1 .wanted) in let n = c .before .before .before .before .before .before .before .before .before .before .pre .1 .0 .long in (falls-right _ _ _ t (c .before .before .before .before .before .before .before .before .before .before .pre .0) (let a = tree-root (c .before .before .before .before .before .before .before .before .before .before .pre .1 .1 .wanted) .over in let b = c .before .before .before .before .before .before .before .before .before .before .pre .1 .3 in omega arith), (ready-block (c .before .before .before .before .before .before .before .before .before .before .pre .1 .0) b, room-last (block-parts _ (c .before .before .before .before .before .before .before .before .before .before .pre .1 .3) (c .before .before .before .before .before .before .before .before .before .before .pre .1 .2) (c .before .before .if1 .left) _ (nstack-block _ _ _ (omega arith))) (c .before .before .before .before .before .before .before .before .before .before .pre .1 .1))))
-    (λ c κs. let b = tree-block (c .before .before .before .before .before .before .before .before .before .before .before .before .before .before .before .before .pre .1 .2) (c .before .before .before .before .before .before .before .before .if1 .left) (c .before .before .before .before .before .before .before .before .before .before .before .before .before .before .before .before .pre .1 .1 .wanted) in let n = c .before .before .before .before .before .before .before .before .before .before .before .before .before .before .before .before .pre .1 .0 .long in let f = two-fit (block-parts _ (c .before .before .before .before .before .before .before .before .before .before .before .before .before .before .before .before .pre .1 .3) (c .before .before .before .before .before .before .before .before .before .before .before .before .before .before .before .before .pre .1 .2) (c .before .before .before .before .before .before .before .before .if1 .left) _ (nstack-block _ _ _ (omega arith))) (c .before .before .before .before .before .before .before .before .before .before .before .before .before .before .before .before .pre .1 .1) (c .before .before .before .before .before .write2 .ensures .0) in let i = c .before .before .before .before .before .before .before .before .before .before .before .before .before .before .before .before .pre .1 .0 .inside in let m = c .before .before .before .before .before .write2 .kept .1 .1 .1 .1 .0 in (f .0, omega (arith, f .1)))
-    (λ c. c .before .before .put2 .kept .0 ∙ c .before .before .before .before .before .before .before .before .write2 .kept .1 .1 .1 .1 .0)
-    (λ c. c .before .before .before .before .before .before .before .before .write2 .kept .1 .1 .1 .1 .1 .0 ∙ length-set (c .before .before .before .before .before .before .before .before .before .before .before .before .before .before .before .before .before .before .before .args .opened .now) (c .before .before .before .before .before .before .before .before .before .before .before .before .before .before .before .before .before .before .before .args .l) (c .before .before .before .before .before .before .before .before .before .before .before .before .before .before .before .before .before .before .before .args .offset))
-    (λ c. let b = tree-block (c .before .before .before .before .before .before .before .before .before .before .before .before .before .before .before .before .before .before .before .pre .1 .2) (c .before .before .before .before .before .before .before .before .before .before .before .if1 .left) (c .before .before .before .before .before .before .before .before .before .before .before .before .before .before .before .before .before .before .before .pre .1 .1 .wanted) in let n = c .before .before .before .before .before .before .before .before .before .before .before .before .before .before .before .before .before .before .before .pre .1 .0 .long in (two-written (block-parts _ (c .before .before .before .before .before .before .before .before .before .before .before .before .before .before .before .before .before .before .before .pre .1 .3) (c .before .before .before .before .before .before .before .before .before .before .before .before .before .before .before .before .before .before .before .pre .1 .2) (c .before .before .before .before .before .before .before .before .before .before .before .if1 .left) _ (nstack-block _ _ _ (omega arith))) (c .before .before .before .before .before .before .before .before .write2 .ensures .0) (c .before .before .put2 .ensures), block-same (c .before .before .before .before .before .before .before .before .before .before .before .before .before .before .before .before .before .before .before .args .l) (c .before .before .before .before .before .before .before .before .before .before .before .before .before .before .before .before .before .before .before .args .offset) (c .before .before .before .before .before .before .before .before .before .before .before .before .before .before .before .before .before .before .before .args .opened .now) (c .before .before .before .before .before .before .before .before .write2 .last .1 .1 .1 .1 .1 .0) (c .before .before .before .before .before .before .before .before .write2 .ensures .1)))
+    (λ c κs. (tree-root (c .before .before .before .before .before .before .pre .1 .1 .wanted) .within, λ q. tree-cell q (c .before .before .before .before .before .before .pre .1 .1 .wanted) .within))
+    (λ c κs. (tree-root (c .before .before .before .before .before .before .before .before .before .pre .1 .1 .wanted) .within, λ q. (let b = tree-cell q (c .before .before .before .before .before .before .before .before .before .pre .1 .1 .wanted) in (omega (arith, b .within), omega (arith, b .name)))))
+    (λ c κs. (two-fit (node-parts (c .before .before .before .before .before .before .before .before .before .before .pre .1 .2) (c .before .before .before .before .before .before .before .before .before .before .args .opened .now) (let n = c .before .before .before .before .before .before .before .before .before .before .pre .1 .0 .long in let k = c .before .before .before .before .before .before .before .before .before .before .pre .1 .0 .lambdas in omega arith) (sym (c .before .before .if1 .taken) ∙ c .before .before .before .arguments .ensures) refl (c .head .ensures) refl) (c .before .before .before .before .before .before .before .before .before .before .pre .1 .1) (none-written {d = c .before .before .before .before .before .before .before .before .before .before .args .result .now}) .0, c .before .before .before .before .before .before .before .before .before .before .pre .1 .0 .inside))
+    (λ c. c .before .before .put .kept .0)
+    (λ c. (two-written (node-parts (c .before .before .before .before .before .before .before .before .before .before .before .before .before .pre .1 .2) (c .before .before .before .before .before .before .before .before .before .before .before .before .before .args .opened .now) (let n = c .before .before .before .before .before .before .before .before .before .before .before .before .before .pre .1 .0 .long in let k = c .before .before .before .before .before .before .before .before .before .before .before .before .before .pre .1 .0 .lambdas in omega arith) (sym (c .before .before .before .before .before .if1 .taken) ∙ c .before .before .before .before .before .before .arguments .ensures) refl (c .before .before .before .head .ensures) refl) none-written (c .before .before .put .ensures), refl))
+    (λ c. let n = c .before .before .before .before .before .before .before .before .pre .1 .0 .long in let k = c .before .before .before .before .before .before .before .before .pre .1 .0 .lambdas in search needs)
+    (λ c. let n = c .before .before .before .before .before .before .before .before .pre .1 .0 .long in let k = c .before .before .before .before .before .before .before .before .pre .1 .0 .lambdas in search needs)
+    (λ c. let a = tree-root (c .before .before .before .before .before .before .before .before .before .before .pre .1 .1 .wanted) .within in let s = c .before .before .before .before .before .before .before .before .before .before .pre .1 .0 .scene .code-short in let m = c .before .before .before .before .before .before .before .before .before .before .pre .1 .0 .scene .work-long in search needs)
+    (λ c. let a = tree-root (c .before .before .before .before .before .before .before .before .before .before .before .pre .1 .1 .wanted) .within in let s = c .before .before .before .before .before .before .before .before .before .before .before .pre .1 .0 .scene .code-short in let m = c .before .before .before .before .before .before .before .before .before .before .before .pre .1 .0 .scene .work-long in search needs)
+    (λ c κs. search needs)
+    (λ c κs. (tree-root (c .before .before .before .before .before .before .before .before .before .before .before .before .pre .1 .1 .wanted) .within, let k = c .before .before .before .before .before .before .before .before .before .before .before .before .pre .1 .0 .lambdas in omega arith))
+    (λ c κs. (falls-right _ _ _ t (c .before .before .before .before .before .before .before .before .before .before .before .before .before .pre .0) (let a = tree-root (c .before .before .before .before .before .before .before .before .before .before .before .before .before .pre .1 .1 .wanted) .over in let b = c .before .over .ensures in omega arith), (ready-inner (c .before .before .before .before .before .before .before .before .before .before .before .before .before .pre .1 .0) (node-inner (c .before .before .before .before .before .before .before .before .before .before .before .before .before .pre .1 .2) (c .before .before .before .before .before .before .before .before .before .before .before .before .before .pre .1 .0 .lambdas) (c .inner .ensures) (c .before .before .before .before .before .before .before .before .before .before .before .before .before .pre .1 .1 .wanted)), room-last (node-parts (c .before .before .before .before .before .before .before .before .before .before .before .before .before .pre .1 .2) (c .before .before .before .before .before .before .before .before .before .before .before .before .before .args .opened .now) (let n = c .before .before .before .before .before .before .before .before .before .before .before .before .before .pre .1 .0 .long in let k = c .before .before .before .before .before .before .before .before .before .before .before .before .before .pre .1 .0 .lambdas in omega arith) (c .before .before .before .before .before .before .arguments .ensures) (c .inner .ensures) refl (c .before .over .ensures)) (c .before .before .before .before .before .before .before .before .before .before .before .before .before .pre .1 .1))))
+    (λ c κs. (tree-root (c .before .before .before .before .before .before .before .before .before .before .before .before .before .before .before .before .before .before .before .pre .1 .1 .wanted) .within, λ q. (let b = tree-cell q (c .before .before .before .before .before .before .before .before .before .before .before .before .before .before .before .before .before .before .before .pre .1 .1 .wanted) in (omega (arith, b .within), omega (arith, b .name)))))
+    (λ c κs. let f = two-fit (node-parts (c .before .before .before .before .before .before .before .before .before .before .before .before .before .before .before .before .before .before .before .before .pre .1 .2) (c .before .before .before .before .before .before .before .before .before .before .before .before .before .before .before .before .before .before .before .before .args .opened .now) (let n = c .before .before .before .before .before .before .before .before .before .before .before .before .before .before .before .before .before .before .before .before .pre .1 .0 .long in let k = c .before .before .before .before .before .before .before .before .before .before .before .before .before .before .before .before .before .before .before .before .pre .1 .0 .lambdas in omega arith) (c .before .before .before .before .before .before .before .before .before .before .before .before .before .arguments .ensures) (c .before .before .before .before .before .before .before .inner .ensures) (c .head2 .ensures) (c .before .before .before .before .before .before .before .before .over .ensures)) (c .before .before .before .before .before .before .before .before .before .before .before .before .before .before .before .before .before .before .before .before .pre .1 .1) (c .before .before .before .before .before .before .write .ensures .0) in let i = c .before .before .before .before .before .before .before .before .before .before .before .before .before .before .before .before .before .before .before .before .pre .1 .0 .inside in let m = c .before .before .before .before .before .before .write .kept .1 .1 .1 .1 .0 in (f .0, omega (arith, f .1)))
+    (λ c. c .before .before .put2 .kept .0 ∙ c .before .before .before .before .before .before .before .before .before .write .kept .1 .1 .1 .1 .0)
+    (λ c. c .before .before .before .before .before .before .before .before .before .write .kept .1 .1 .1 .1 .1 .0 ∙ length-set (c .before .before .before .before .before .before .before .before .before .before .before .before .before .before .before .before .before .before .before .before .before .before .before .args .opened .now) (c .before .before .before .before .before .before .before .before .before .before .before .before .before .before .before .before .before .before .before .before .before .before .before .args .l) (c .before .before .before .before .before .before .before .before .before .before .before .before .before .before .before .before .before .before .before .before .before .before .before .args .offset))
+    (λ c. (two-written (node-parts (c .before .before .before .before .before .before .before .before .before .before .before .before .before .before .before .before .before .before .before .before .before .before .before .pre .1 .2) (c .before .before .before .before .before .before .before .before .before .before .before .before .before .before .before .before .before .before .before .before .before .before .before .args .opened .now) (let n = c .before .before .before .before .before .before .before .before .before .before .before .before .before .before .before .before .before .before .before .before .before .before .before .pre .1 .0 .long in let k = c .before .before .before .before .before .before .before .before .before .before .before .before .before .before .before .before .before .before .before .before .before .before .before .pre .1 .0 .lambdas in omega arith) (c .before .before .before .before .before .before .before .before .before .before .before .before .before .before .before .before .arguments .ensures) (c .before .before .before .before .before .before .before .before .before .before .inner .ensures) (c .before .before .before .head2 .ensures) (c .before .before .before .before .before .before .before .before .before .before .before .over .ensures)) (c .before .before .before .before .before .before .before .before .before .write .ensures .0) (c .before .before .put2 .ensures), inner-same (node-inner (c .before .before .before .before .before .before .before .before .before .before .before .before .before .before .before .before .before .before .before .before .before .before .before .pre .1 .2) (c .before .before .before .before .before .before .before .before .before .before .before .before .before .before .before .before .before .before .before .before .before .before .before .pre .1 .0 .lambdas) (c .before .before .before .before .before .before .before .before .before .before .inner .ensures) (c .before .before .before .before .before .before .before .before .before .before .before .before .before .before .before .before .before .before .before .before .before .before .before .pre .1 .1 .wanted)) (c .before .before .before .before .before .before .before .before .before .before .before .before .before .before .before .before .before .before .before .before .before .before .before .args .offset) (c .before .before .before .before .before .before .before .before .before .before .before .before .before .before .before .before .before .before .before .before .before .before .before .args .opened .now) (c .before .before .before .before .before .before .before .before .before .write .last .1 .1 .1 .1 .1 .0) (c .before .before .before .before .before .before .before .before .before .write .ensures .1)))
