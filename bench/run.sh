@@ -97,7 +97,7 @@ fi
 plans=(small beta beta-{64,512,4096} most compare-{64,512,4096} forbid-{64,512,4096})
 if wants run; then
     tables run plan node "${plans[@]}" same-{64,512,4096} copy-{32,256,2048} move-{64,512,4095} keyed-{64,512,4095} \
-        comb-512 comb-4096 deep abstractions bodies bodies-{symbols,abstractions,deep} blocks both doubled \
+        comb-512 comb-4096 deep abstractions bodies bodies-{symbols,cells,abstractions,deep} blocks both doubled \
         refused-16 refused-11 refused-2 refused-1 refused-3 refused-4 refused-12-first refused-12-last \
         refused-13 refused-13-bodies refused-14 refused-14-bodies refused-15
     echo

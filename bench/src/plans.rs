@@ -159,6 +159,8 @@ fn single(name: &str) -> (Vec<u32>, Vec<u32>) {
         "bodies" => in_bodies(NESTING, &Term::abst(Var(0))),
         // The same where each entry adds a symbol, or an abstraction, down to depth 64.
         "bodies-symbols" => in_bodies(NESTING - 1, &Term::abst(Sym(2, vec![Var(0)]))),
+        // The same where the symbol is the body's: a level of bodies and one of terms in turn, to depth 64.
+        "bodies-cells" => in_cells(),
         "bodies-abstractions" => in_bodies(NESTING - 1, &Term::abst(Term::abst(Var(1)))),
         // Blocks around a body, and blocks and bodies in turn.
         "blocks" => in_levels(&[&[Level::Block; BINDERS][..], &[Level::Body]].concat()),
@@ -180,6 +182,12 @@ fn in_bodies(levels: usize, subject: &Term) -> (Vec<u32>, Vec<u32>) {
 /// A leaf in these levels, each entry its variable.
 fn in_levels(levels: &[Level]) -> (Vec<u32>, Vec<u32>) {
     let building = nested(levels, &[CELL, 1, 0]);
+    ([&[ISABST, SET, NEXT], &building[..]].concat(), Term::abst(Var(0)).words())
+}
+
+fn in_cells() -> (Vec<u32>, Vec<u32>) {
+    let body = |code: Vec<u32>, _| [&pushi(0, difference(0, 1), &[(0, code)])[..], &[CELL, 2, 1]].concat();
+    let building = (0..NESTING - 1).fold(vec![CELL, 1, 0], body);
     ([&[ISABST, SET, NEXT], &building[..]].concat(), Term::abst(Var(0)).words())
 }
 
