@@ -14,7 +14,7 @@ ghost use Rattle.plan.specs.Program.{readNumber, compileNumber, runNumbe
 // 01's number where nothing is refused.
 const DONE: u32 = 0;
 
-// The words of the tables: the most that a file, code and a run may have.
+// The words of the tables: the most that a file and code may have, and what a run asks for.
 const SIDE_WORDS: usize = 1024;
 
 const SUBJECT_WORDS: usize = 8192;
@@ -25,6 +25,11 @@ const WORKING_WORDS: usize = 8192;
 
 const RESULT_WORDS: usize = 8192;
 
+const WORD_BYTES: usize = 4;
+
+// The bytes of the longest file: a version, and for each table a count and its words.
+pub const FILE_BYTES: usize = 1 + WORD_BYTES * (3 + 2 * SIDE_WORDS + SUBJECT_WORDS);
+
 // The bytes of the longest line: number, word count and a full result table.
 pub const LINE_BYTES: usize = NUMBER_BYTES * (2 + RESULT_WORDS);
 
@@ -34,7 +39,7 @@ pub struct Applied {
     pub words: u32,
 }
 
-// The line for a file at the front of the lent bytes, and how many bytes it has.
+// The line for a file, at the front of the lent bytes, and how many bytes it has.
 pub fn line_for(file: &[u8], line: &mut [u8; LINE_BYTES]) -> usize
     ensures { λ r. ⌜ Wrote (now (line .entry)) (now (line .exit)) 0 r (lineOf (planApply (now (file .entry)))) × Counts r (now (line .exit)) ⌝ }
 {

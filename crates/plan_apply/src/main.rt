@@ -2,15 +2,15 @@
 // and proved in `plan`; here its bytes come in and go out.
 use libc::STDIN_FILENO;
 use libc::STDOUT_FILENO;
-ghost use Rattle.plan.specs.Line.{Counts};
+use plan::FILE_BYTES;
 use plan::LINE_BYTES;
+ghost use Rattle.plan.specs.Line.{Counts};
 
-// A byte more than the longest file has (a version byte, three counts, 1,024, 1,024 and 8,192 words), so that a longer one is seen to be longer,
-// and refused.
-const FILE_BYTES: usize = 1 + 3 * 4 + 4 * (1024 + 1024 + 8192) + 1;
+// A byte more than the longest file has, so that a longer one is seen to be longer, and refused.
+const TAKEN_BYTES: usize = FILE_BYTES + 1;
 
 fn main() {
-    let mut file = [0u8; FILE_BYTES];
+    let mut file = [0u8; TAKEN_BYTES];
     let length = take_file(&mut file);
     let mut line = [0u8; LINE_BYTES];
     let bytes = plan::line_for(&file[..length], &mut line);
