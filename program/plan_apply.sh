@@ -1,20 +1,22 @@
 #!/usr/bin/env bash
-# plan_apply.sh < FILE: runs plan_apply. Builds the program first where it is missing or older than what it is made of, and before that, if
-# need be, the library, which takes its time, since all of it is proved.
+# plan_apply.sh < FILE: runs plan_apply. Proves and builds it first where it is missing or older than the crates, which takes its time the
+# first time, since all that it is made of is proved.
 set -euo pipefail
-here=$(cd "$(dirname "$0")" && pwd -P)
-root=$(dirname "$here")
-archive=$root/target/staticlib/libreedbiscuit.a
-out=$root/target/plan_apply
-made=$out/plan_apply
+root=$(cd "$(dirname "$0")/.." && pwd -P)
+program=$root/target/bin/plan_apply
+# When the program was last known to be what the crates say. Its own time does not tell: rt leaves it alone where nothing that it needs changed.
+known=$root/target/plan_apply.known
 
-# newer FILE PLACE...: whether the file is missing or something in these places is newer
-newer() { [ ! -e "$1" ] || [ -n "$(find "${@:2}" -type f -newer "$1" -print -quit)" ]; }
-
-# What is printed on the way goes to standard error, and nothing here reads standard input: both are plan_apply's.
-if newer "$archive" "$root/crates"; then (cd "$root" && rt staticlib reedbiscuit) >&2 </dev/null; fi
-if newer "$made" "$archive" "$here" "$root/include"; then
-    mkdir -p "$out"
-    sh "$here/build.sh" "$here/plan_apply.c" "$archive" "$out" >&2 </dev/null
+# rt's own lines go to standard error (the rest is in target/log), and nothing here reads standard input: it and standard output are plan_apply's.
+if [ ! -x "$program" ] || [ ! -e "$known" ] || [ -n "$(find "$root/crates" "$root/crates.txt" -newer "$known" -print -quit)" ]; then
+    mkdir -p "$root/target"
+    touch "$known.begun"
+    (cd "$root" && rt check plan_apply) </dev/null 2>&1 | grep '^rt: ' >&2
+    mv "$known.begun" "$known"
 fi
-exec "$made"
+
+# An x86-64 program on every machine, under the kit's loader and C library, and elsewhere under its emulator, as rt itself runs it.
+tools=$(dirname "$(dirname "$(rt doc)")")/on/$(uname -m)/toolchain
+emulator=$tools/bin/qemu-x86_64
+[ -x "$emulator" ] || emulator=''
+exec ${emulator:+"$emulator"} "$tools/lib/ld-linux-x86-64.so.2" --library-path "$tools/lib" "$program"

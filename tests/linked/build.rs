@@ -8,7 +8,7 @@ use std::process::{Command, ExitCode};
 /// Where `rt staticlib reedbiscuit` writes, seen from this package.
 const STATICLIB: &str = "../../target/staticlib";
 const ARCHIVE: &str = "libreedbiscuit.a";
-/// Links a C program with the library, for plan_apply too.
+/// Links a C program with the library.
 const BUILD: &str = "../../program/build.sh";
 
 fn main() -> ExitCode {

@@ -1,5 +1,4 @@
-//! The program plan_apply, which the library is linked into, prints the second implementation's
-//! lines.
+//! The program plan_apply prints the second implementation's lines.
 
 use std::fs::File;
 use std::io::Write;
