@@ -6,84 +6,53 @@ use mathlib.Core.Bool.{Bool, true, false, cond}
 use mathlib.Core.List.{List, [], _∷_}
 use lib.Dec.{eqb}
 use lib.ListN.{length, take, replicate, length-replicate}
-use Rattle.documents.specs.declared.Refusal.{Refusal}
-use Rattle.documents.specs.declared.Refusal.the-variants.{TableNotGood, TooManyWords, TooDeep, MetavariableInSubject, LeftRootNoSymbol, FreeVariable, ArgumentsNotDistinctVariables, MetavariableAbsentOnLeft, TooManyMetavariables, CodeTableShort, DoesNotPass, MatchFails, ResultTooLarge, ResultTooDeep, ResultIndexTooLarge, WorkingTableShort, BadFile}
+use borrow.Author.Tests.{eq-eqb, ne-eqb}
 use Rattle.documents.specs.Limits.{planLimit, codeLimit, workingWords}
-use Rattle.documents.specs.Numbers.{numberOf}
 use Rattle.documents.specs.Calls.{ReadAnswer, readCall, CompileAnswer, compileCall, RunAnswer, runCall, runLine, compileLine, planLine, readLine, planApply, fileSideWords, fileSubjectWords}
-use Rattle.reader.specs.Reader.{given}
-use Rattle.reader.specs.declared.Answer.{Answer}
-use Rattle.reader.specs.declared.Answer.the-variants as read-answer
-use Rattle.compiler.specs.Answers as compiler
-use Rattle.compiler.specs.declared.Compiled.{Compiled}
-use Rattle.compiler.specs.declared.Compiled.the-variants as compile-answer
-use Rattle.plan.specs.Program.{Planned, afterRun, afterCompile, afterRead, planned, Leaves, readNumber, compileNumber}
+use Rattle.reedbiscuit.specs.declared.ReedReadAnswer.{ReedReadAnswer}
+use Rattle.reedbiscuit.specs.declared.ReedAnswer.{ReedAnswer}
+use Rattle.reedbiscuit.specs.Answers.{readGiven, compileGiven}
+use Rattle.plan.specs.Program.{Planned, afterRun, afterCompile, afterRead, planned, Leaves}
 use Rattle.plan.proofs.Counted.{read-fits, compile-fits, run-fits}
-
--- no refusal has the number of done
-refusal : (w : Refusal) → eqb (numberOf w) 0 ≡ false
-refusal TableNotGood = refl
-refusal TooManyWords = refl
-refusal TooDeep = refl
-refusal MetavariableInSubject = refl
-refusal LeftRootNoSymbol = refl
-refusal FreeVariable = refl
-refusal ArgumentsNotDistinctVariables = refl
-refusal MetavariableAbsentOnLeft = refl
-refusal TooManyMetavariables = refl
-refusal CodeTableShort = refl
-refusal DoesNotPass = refl
-refusal MatchFails = refl
-refusal ResultTooLarge = refl
-refusal ResultTooDeep = refl
-refusal ResultIndexTooLarge = refl
-refusal WorkingTableShort = refl
-refusal BadFile = refl
 
 -- ---- After the reader
 
-module _ (bytes left right subject : List ℕ) (a : Answer) (left′ right′ subject′ : List ℕ) (h : given a left′ right′ subject′ ≡ readCall bytes left right subject) where
-  pub read-within : {l r s : ℕ} → a ≡ read-answer.Words l r s → (l ≤ length left) × (r ≤ length right) × (s ≤ length subject)
-  read-within e =
-      let f = read-fits bytes left right subject in
-      let g = rw e at h in (
-        omega (arith, f .0, ap (λ (x : ReadAnswer). x .leftWords) g),
-        omega (arith, f .1, ap (λ (x : ReadAnswer). x .rightWords) g),
-        omega (arith, f .2, ap (λ (x : ReadAnswer). x .subjectWords) g),
+module _ (bytes left right subject : List ℕ) (a : ReedReadAnswer) (left′ right′ subject′ : List ℕ) (h : readGiven a left′ right′ subject′ ≡ readCall bytes left right subject) where
+  pub read-within : (a .left ≤ length left) × (a .right ≤ length right) × (a .subject ≤ length subject)
+  read-within =
+      let f = read-fits bytes left right subject in (
+        omega (arith, f .0, ap (λ (x : ReadAnswer). x .leftWords) h),
+        omega (arith, f .1, ap (λ (x : ReadAnswer). x .rightWords) h),
+        omega (arith, f .2, ap (λ (x : ReadAnswer). x .subjectWords) h),
       )
 
   pub read-leaves : Leaves (readCall bytes left right subject) left′ right′ subject′
-  read-leaves = go a h
-    where
-      go : (a : Answer) → given a left′ right′ subject′ ≡ readCall bytes left right subject → Leaves (readCall bytes left right subject) left′ right′ subject′
-      go (read-answer.Words l r s) h = rw (← h) (refl, refl, refl)
-      go (read-answer.Refused w) h = rw (← h) (refl, refl, refl)
+  read-leaves = rw (← h) (refl, refl, refl)
 
   module _ (code working result : List ℕ) where
-    pub read-stopped : {w : Refusal} {k : ℕ} → a ≡ read-answer.Refused w → k ≡ readNumber a
-        → record { number = k; words = 0; code = code; working = working; result = result } ≡ planned bytes left right subject code working result
+    pub read-stopped : (a .number ≡ 0 → ⊥) → record { number = a .number; words = 0; code = code; working = working; result = result } ≡ planned bytes left right subject code working result
     unfolding planned
-    read-stopped {w} e n = rw (← h, e, n, e, refusal w)
+    read-stopped n = rw (← h, ne-eqb (a .number) 0 n)
 
-    pub read-done : {l r s : ℕ} → a ≡ read-answer.Words l r s
-        → afterCompile (take s subject′) working result (compileCall (take l left′) (take r right′) code) ≡ planned bytes left right subject code working result
+    pub read-done : a .number ≡ 0
+        → afterCompile (take (a .subject) subject′) working result (compileCall (take (a .left) left′) (take (a .right) right′) code) ≡ planned bytes left right subject code working result
     unfolding planned
-    read-done e = ap (afterRead code working result) (rw e at h)
+    read-done e = rw (← h, eq-eqb (a .number) 0 e)
 
 -- ---- After compile
 
-module _ (left right code : List ℕ) (a : Compiled) (code′ : List ℕ) (h : compiler.given a code′ ≡ compileCall left right code) where
-  pub compile-within : {n : ℕ} → a ≡ compile-answer.Words n → n ≤ length code
-  compile-within e = omega (arith, compile-fits left right code, ap (λ (x : CompileAnswer). x .words) (rw e at h))
+module _ (left right code : List ℕ) (a : ReedAnswer) (code′ : List ℕ) (h : compileGiven a code′ ≡ compileCall left right code) where
+  pub compile-within : a .words ≤ length code
+  compile-within = omega (arith, compile-fits left right code, ap (λ (x : CompileAnswer). x .words) h)
 
   module _ (subject working result : List ℕ) where
-    pub compile-stopped : {w : Refusal} {k : ℕ} → a ≡ compile-answer.Refused w → k ≡ compileNumber a
-        → record { number = k; words = 0; code = code′; working = working; result = result } ≡ afterCompile subject working result (compileCall left right code)
-    compile-stopped {w} e n = rw (← h, e, n, e, refusal w)
+    pub compile-stopped : (a .number ≡ 0 → ⊥)
+        → record { number = a .number; words = 0; code = code′; working = working; result = result } ≡ afterCompile subject working result (compileCall left right code)
+    compile-stopped n = rw (← h, ne-eqb (a .number) 0 n)
 
-    pub compile-done : {n : ℕ} → a ≡ compile-answer.Words n
-        → afterRun code′ (runCall (take n code′) subject working result) ≡ afterCompile subject working result (compileCall left right code)
-    compile-done e = ap (afterCompile subject working result) (rw e at h)
+    pub compile-done : a .number ≡ 0
+        → afterRun code′ (runCall (take (a .words) code′) subject working result) ≡ afterCompile subject working result (compileCall left right code)
+    compile-done e = rw (← h, eq-eqb (a .number) 0 e)
 
 -- ---- The line
 

@@ -6,15 +6,9 @@ use mathlib.Core.Bool.{cond}
 use mathlib.Core.List.{List}
 use lib.Dec.{eqb}
 use lib.ListN.{take}
-use Rattle.documents.specs.Numbers.{numberOf}
 use Rattle.documents.specs.Calls.{ReadAnswer, readCall, CompileAnswer, compileCall, RunAnswer, runCall}
-use Rattle.reader.specs.declared.Answer.{Answer}
-use Rattle.reader.specs.declared.Answer.the-variants as reader
-use Rattle.compiler.specs.declared.Compiled.{Compiled}
-use Rattle.compiler.specs.declared.Compiled.the-variants as compiler
-use Rattle.runner.specs.declared.Ran.{Ran}
-use Rattle.runner.specs.declared.Ran.the-variants as runner
-use Rattle.plan.specs.declared.Applied.{Applied}
+use Rattle.reedbiscuit.specs.declared.ReedAnswer.{ReedAnswer}
+use Rattle.reedbiscuit.specs.Answers.{runGiven}
 
 -- the line's number and word count, and the tables lent to compile and run, afterwards
 pub record Planned : Type 0 where
@@ -53,25 +47,6 @@ Leaves a left right subject = (left ≡ a .left) × (right ≡ a .right) × (sub
 
 -- ---- The code's answers
 
--- 01's number of the reader's answer
-abbrev pub readNumber : Answer → ℕ
-readNumber (reader.Words l r s) = 0
-readNumber (reader.Refused w) = numberOf w
-
--- .. of the compiler's
-abbrev pub compileNumber : Compiled → ℕ
-compileNumber (compiler.Words n) = 0
-compileNumber (compiler.Refused w) = numberOf w
-
--- .. of the run's
-abbrev pub runNumber : Ran → ℕ
-runNumber (runner.Words n) = 0
-runNumber (runner.Refused w) = numberOf w
-
--- the numbers of a struct, and the tables lent to the run, afterwards
-abbrev pub runTold : Applied → List ℕ → List ℕ → RunAnswer
-runTold a working result = record { number = a .number; words = a .words; working = working; result = result }
-
--- .. and the code table
-abbrev pub told : Applied → List ℕ → List ℕ → List ℕ → Planned
-told a code working result = afterRun code (runTold a working result)
+-- the numbers of a struct, and the tables lent to compile and run, afterwards
+abbrev pub told : ReedAnswer → List ℕ → List ℕ → List ℕ → Planned
+told a code working result = afterRun code (runGiven a working result)

@@ -3,16 +3,15 @@ pub mod line; // numbers in decimal
 
 use crate::line::NUMBER_BYTES;
 use crate::line::put_line;
-use compiler::Compiled;
-use reader::Answer;
-use runner::Ran;
+use reedbiscuit::DONE;
+use reedbiscuit::ReedAnswer;
+use reedbiscuit::reed_compile;
+use reedbiscuit::reed_read;
+use reedbiscuit::reed_run;
 ghost use mathlib.Core.Path.{_≡_};
-ghost use Rattle.documents.specs.Calls.{readCall, compileCall, runCall, planApply};
+ghost use Rattle.documents.specs.Calls.{readCall, compileCall, planApply};
 ghost use Rattle.plan.specs.Line.{lineOf, Wrote, Counts};
-ghost use Rattle.plan.specs.Program.{readNumber, compileNumber, runNumber, runTold, told, afterCompile, planned, Leaves};
-
-// 01's number where nothing is refused.
-const DONE: u32 = 0;
+ghost use Rattle.plan.specs.Program.{told, afterCompile, planned, Leaves};
 
 // The words of the tables: the most that a file and code may have, and what a run asks for.
 const SIDE_WORDS: usize = 1024;
@@ -32,12 +31,6 @@ pub const FILE_BYTES: usize = 1 + WORD_BYTES * (3 + 2 * SIDE_WORDS + SUBJECT_WOR
 
 // The bytes of the longest line: number, word count and a full result table.
 pub const LINE_BYTES: usize = NUMBER_BYTES * (2 + RESULT_WORDS);
-
-// What a line says before its words.
-pub struct Applied {
-    pub number: u32,
-    pub words: u32,
-}
 
 // The line for a file, at the front of the lent bytes, and how many bytes it has.
 pub fn line_for(file: &[u8], line: &mut [u8; LINE_BYTES]) -> usize
@@ -71,19 +64,19 @@ pub fn apply(
     code: &mut [u32],
     working: &mut [u32],
     result: &mut [u32],
-) -> Applied
+) -> ReedAnswer
     ensures { λ r. ⌜ (told r (now (code .exit)) (now (working .exit)) (now (result .exit)) ≡ planned (now (file .entry)) (now (left .entry)) (now (right .entry)) (now (subject .entry)) (now (code .entry)) (now (working .entry)) (now (result .entry))) × Leaves (readCall (now (file .entry)) (now (left .entry)) (now (right .entry)) (now (subject .entry))) (now (left .exit)) (now (right .exit)) (now (subject .exit)) ⌝ }
 {
-    let answer = reader::read(file, left, right, subject);
-    let Answer::Words(l, r, s) = answer else {
-        return Applied {
-            number: read_number(answer),
+    let read = reed_read(file, left, right, subject);
+    if read.number != DONE {
+        return ReedAnswer {
+            number: read.number,
             words: 0,
         };
-    };
-    let left_words = l as usize;
-    let right_words = r as usize;
-    let subject_words = s as usize;
+    }
+    let left_words = read.left as usize;
+    let right_words = read.right as usize;
+    let subject_words = read.subject as usize;
     compile_and_run(
         &left[..left_words],
         &right[..right_words],
@@ -94,6 +87,7 @@ pub fn apply(
     )
 }
 
+// The same from the words of the tables on.
 fn compile_and_run(
     left: &[u32],
     right: &[u32],
@@ -101,62 +95,16 @@ fn compile_and_run(
     code: &mut [u32],
     working: &mut [u32],
     result: &mut [u32],
-) -> Applied
+) -> ReedAnswer
     ensures { λ r. ⌜ told r (now (code .exit)) (now (working .exit)) (now (result .exit)) ≡ afterCompile (now (subject .entry)) (now (working .entry)) (now (result .entry)) (compileCall (now (left .entry)) (now (right .entry)) (now (code .entry))) ⌝ }
 {
-    let answer = compiler::compile(left, right, code);
-    let Compiled::Words(n) = answer else {
-        return Applied {
-            number: compile_number(answer),
+    let compiled = reed_compile(left, right, code);
+    if compiled.number != DONE {
+        return ReedAnswer {
+            number: compiled.number,
             words: 0,
         };
-    };
-    let words = n as usize;
-    run(&code[..words], subject, working, result)
-}
-
-fn run(code: &[u32], subject: &[u32], working: &mut [u32], result: &mut [u32]) -> Applied
-    ensures { λ r. ⌜ runTold r (now (working .exit)) (now (result .exit)) ≡ runCall (now (code .entry)) (now (subject .entry)) (now (working .entry)) (now (result .entry)) ⌝ }
-{
-    let answer = runner::run(code, subject, working, result);
-    let Ran::Words(n) = answer else {
-        return Applied {
-            number: run_number(answer),
-            words: 0,
-        };
-    };
-    Applied {
-        number: DONE,
-        words: n,
     }
-}
-
-// 01's number of the reader's answer.
-fn read_number(answer: Answer) -> u32
-    ensures { λ r. ⌜ r ≡ readNumber answer ⌝ }
-{
-    let Answer::Refused(why) = answer else {
-        return DONE;
-    };
-    documents::number(why)
-}
-
-// .. of the compiler's.
-fn compile_number(answer: Compiled) -> u32
-    ensures { λ r. ⌜ r ≡ compileNumber answer ⌝ }
-{
-    let Compiled::Refused(why) = answer else {
-        return DONE;
-    };
-    documents::number(why)
-}
-
-// .. of the run's.
-fn run_number(answer: Ran) -> u32
-    ensures { λ r. ⌜ r ≡ runNumber answer ⌝ }
-{
-    let Ran::Refused(why) = answer else {
-        return DONE;
-    };
-    documents::number(why)
+    let code_words = compiled.words as usize;
+    reed_run(&code[..code_words], subject, working, result)
 }

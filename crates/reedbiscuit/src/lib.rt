@@ -9,7 +9,7 @@ ghost use Rattle.documents.specs.Calls.{readCall, compileCall, checkCall, runCa
 ghost use Rattle.reedbiscuit.specs.Answers.{readNumber, readGiven, compileNumber, compileGiven, runNumber, runGiven, watchNumber, watchGiven};
 
 // 01's number where nothing is refused.
-const DONE: u32 = 0;
+pub const DONE: u32 = 0;
 
 // The C header calls it reed_read_answer.
 #[repr(C)]
