@@ -66,5 +66,7 @@ module _ (o : List ℕ) (l k v offset : ℕ) (h : l ≤ 63) where
     above = ap (λ (x : List ℕ). take k x) (drop-set-lt 64 (set o (64 + k) v) l offset (omega arith)) ∙ same-one .above;
   }
 
-  pub opened-one : 64 + k < length o → getD (set (set o (64 + k) v) l offset) (64 + k) 0 ≡ v
-  opened-one i = getD-set-other (set o (64 + k) v) l (64 + k) offset 0 (λ q. omega arith) ∙ getD-set-same o (64 + k) v 0 i
+  pub opened-one : 64 + k < length o → {i : ℕ} → k ≡ i → getD (set (set o (64 + k) v) l offset) (64 + i) 0 ≡ v
+  opened-one j e =
+      ap (λ x. getD (set (set o (64 + k) v) l offset) (64 + x) 0) (sym e) ∙ getD-set-other (set o (64 + k) v) l (64 + k) offset 0 (λ q. omega arith)
+      ∙ getD-set-same o (64 + k) v 0 j

@@ -1,5 +1,5 @@
 -- What is still to be written: trees, and before them the nodes that wait, each with the trees before it.
-use mathlib.Core.Path.{_≡_, refl, sym, ap, _∙_}
+use mathlib.Core.Path.{_≡_, refl, sym, ap, ap₂, _∙_}
 use Prim.Native.Nat.{ℕ, zero, suc, _+_, _-_, _/_, _%_, _≤_, _<_}
 use native.Mathlib.Omega.{arith}
 use native.Mathlib.Decide.{ℕ-discrete}
@@ -180,7 +180,7 @@ module _ {code subject entries work : List ℕ} {words l level offset : ℕ} whe
         let t₁ : TreeAt code subject entries work words lambdas (level + j) offset (nstack offset lambdas o₁) z (p .1) = rw (nstack-same offset lambdas o o₁ (one .lambdas)) t in
         let s = node-parts below o₁ (omega (arith, low, long, length-set o (64 + kept) v)) c i refl b .parts (p .1) t₁ in
         let f = p .3 in
-        let e : getD o₂ (64 + (level + j)) 0 ≡ v = ap (λ x. getD o₂ (64 + x) 0) (sym at) ∙ opened-one o lambdas kept v offset low (omega arith) in
+        let e = opened-one o lambdas kept v offset low (omega arith) at in
         record {
           fore = p .0 ++ s .0;
           trees = s .1;
@@ -190,7 +190,7 @@ module _ {code subject entries work : List ℕ} {words l level offset : ℕ} whe
                 outer = lambdas;
                 fore = f .fore;
                 trees = f .trees;
-                these = ap (λ (us : List ℕ). us ++ s .0) (f .these) ∙ ap (λ (us : List ℕ). (f .fore ++ f .trees) ++ us) (s .3 ∙ ap (λ x. headAt code z ∷ x ∷ []) c);
+                these = ap₂ {C = List ℕ} _++_ (f .these) (s .3 ∙ ap (λ x. headAt code z ∷ x ∷ []) c);
                 least = least;
                 inner = i;
                 within = tree-root t;
