@@ -164,43 +164,59 @@ module _ {code subject entries work : List ℕ} {words l level offset : ℕ} whe
           );
     }
 
-    -- a node at the last root waits from now on
-    pub owed-opened : 0 < n → getD code z 0 < 11 → lambdas ≤ 63 → length o ≡ 128 → (v : ℕ) {kept inner count next : ℕ} → kept ≡ level + j → kept ≤ 63 → l ≤ lambdas
-        → v / 16 ≡ z → v % 16 ≡ n - 1 → inner ≡ lambdasIn code z lambdas → count ≡ argumentsAt code z → next ≡ overIn (getD work z 0) → (ws : List ℕ)
-        → Owed code subject entries work words l level offset o j lambdas n z ws
-        → Owed code subject entries work words l level offset (set (set o (64 + kept) v) lambdas offset) (suc j) inner count next ws
-    unfolding Above
-    owed-opened k below low long v {kept} {inner} {count} {next} at few least place left i c b ws h =
-        let o₁ : List ℕ = set o (64 + kept) v in
-        let o₂ : List ℕ = set o₁ lambdas offset in
-        let p = owed-last k .parts ws h in
-        let one = same-one o lambdas kept v offset low in
-        let all = same-opened o lambdas kept v offset low in
-        let t = p .4 in
-        let t₁ : TreeAt code subject entries work words lambdas (level + j) offset (nstack offset lambdas o₁) z (p .1) = rw (nstack-same offset lambdas o o₁ (one .lambdas)) t in
-        let s = node-parts below o₁ (omega (arith, low, long, length-set o (64 + kept) v)) c i refl b .parts (p .1) t₁ in
-        let f = p .3 in
-        let e = opened-one o lambdas kept v offset low (omega arith) at in
-        record {
-          fore = p .0 ++ s .0;
-          trees = s .1;
-          these = p .2 ∙ ap (λ (vs : List ℕ). p .0 ++ vs) (s .2) ∙ sym (append-assoc (p .0) (s .0) (s .1));
-          above = rw (ap (λ x. x / 16) e ∙ place, ap (λ x. x % 16) e ∙ left)
-              (record {
-                outer = lambdas;
-                fore = f .fore;
-                trees = f .trees;
-                these = ap₂ {C = List ℕ} _++_ (f .these) (s .3 ∙ ap (λ x. headAt code z ∷ x ∷ []) c);
-                least = least;
-                inner = i;
-                within = tree-root t;
-                cell = λ op. tree-cell op t;
-                around = above-kept code subject entries work words l level offset o o₂ j (f .fore) (same-fewer (omega arith) (omega arith) all) (f .above);
-                here = trees-kept o o₂ (all .lambdas) (f .here);
-              });
-          here = let y : level + suc j ≡ level + j + 1 = omega arith in rw y (s .4);
-        }
+-- a node at the last root waits from now on
+module _ (code subject entries work : List ℕ) (words l level offset : ℕ) (o : List ℕ) (j lambdas n z v : ℕ) {kept inner count next : ℕ} (below : getD code z 0 < 11)
+    (low : lambdas ≤ 63) (long : length o ≡ 128) (least : l ≤ lambdas) (at : kept ≡ level + j) (few : kept ≤ 63) (place : v / 16 ≡ z) (left : v % 16 ≡ n - 1)
+    (i : inner ≡ lambdasIn code z lambdas) (c : count ≡ argumentsAt code z) (b : next ≡ overIn (getD work z 0)) where
+  abbrev opened : List ℕ
+  opened = set (set o (64 + kept) v) lambdas offset
 
+  opened-same : Same lambdas (level + j) o opened
+  opened-same = same-fewer (omega arith) (omega arith) (same-opened o lambdas kept v offset low)
+
+  above-opened : {us vs : List ℕ} → Owed code subject entries work words l level offset o j lambdas (n - 1) (beforeIn (getD work z 0)) us
+      → TreeAt code subject entries work words lambdas (level + j) offset (nstack offset lambdas o) z vs
+      → Above code subject entries work words l level offset opened (suc j) inner (us ++ (headAt code z ∷ argumentsAt code z ∷ []))
+  unfolding Above
+  above-opened f t =
+      let e = opened-one o lambdas kept v offset low (omega arith) at in
+      rw (ap (λ x. x / 16) e ∙ place, ap (λ x. x % 16) e ∙ left)
+      (record {
+        outer = lambdas;
+        fore = f .fore;
+        trees = f .trees;
+        these = ap (λ (us : List ℕ). us ++ (headAt code z ∷ argumentsAt code z ∷ [])) (f .these);
+        least = least;
+        inner = i;
+        within = tree-root t;
+        cell = λ op. tree-cell op t;
+        around = above-kept code subject entries work words l level offset o opened j (f .fore) opened-same (f .above);
+        here = trees-kept o opened (opened-same .lambdas) (f .here);
+      })
+
+  node-opened : Splits (TreeAt code subject entries work words lambdas (level + j) offset (nstack offset lambdas o) z) (Exactly (headAt code z ∷ argumentsAt code z ∷ []))
+      (TreesAt code subject entries work words inner (level + suc j) offset (nstack offset inner opened) count next)
+  node-opened =
+      let k : level + suc j ≡ level + j + 1 = omega arith in
+      let same = nstack-same offset lambdas o (set o (64 + kept) v) (same-one o lambdas kept v offset low .lambdas) in
+      rw (k, ← same, ← c) (node-parts below (set o (64 + kept) v) (omega (arith, low, long, length-set o (64 + kept) v)) c i refl b)
+
+  pub owed-opened : 0 < n → (ws : List ℕ) → Owed code subject entries work words l level offset o j lambdas n z ws
+      → Owed code subject entries work words l level offset opened (suc j) inner count next ws
+  owed-opened k ws h =
+      let p = owed-last k .parts ws h in
+      let s = node-opened .parts (p .1) (p .4) in
+      record {
+        fore = p .0 ++ (headAt code z ∷ argumentsAt code z ∷ []);
+        trees = s .1;
+        these =
+            p .2 ∙ ap (λ (vs : List ℕ). p .0 ++ vs) (s .2 ∙ ap (λ (us : List ℕ). us ++ s .1) (s .3))
+            ∙ sym (append-assoc (p .0) (headAt code z ∷ argumentsAt code z ∷ []) (s .1));
+        above = above-opened (p .3) (p .4);
+        here = s .4;
+      }
+
+module _ {code subject entries work : List ℕ} {words l level offset : ℕ} where
   -- ---- The innermost node that waits
 
   module _ {i lambdas n z : ℕ} {o : List ℕ} {x : ℕ} (at : x ≡ level + i) where

@@ -243,7 +243,7 @@ module _ {code subject entries work d e o p : List ℕ} {end to root at left lam
           let u : length (set p (64 + kept) v) ≡ length p = length-set p (64 + kept) v in
           let to-owed : (ws : List ℕ) → Owed code subject entries work words l level offset p (w .j) lambdas left at ws
           → Owed code subject entries work words l level offset (set (set p (64 + kept) v) lambdas offset) (suc (w .j)) inner count next ws =
-          owed-opened h below low n v k high (w .least) (omega arith) (omega arith) i c b
+          owed-opened code subject entries work words l level offset p (w .j) lambdas left at v below low n (w .least) k high (omega arith) (omega arith) i c b h
           in
           record {
             same-length = w .same-length;
