@@ -16,7 +16,7 @@ use Rattle.measurer.specs.declared.Measured.{Measured}
 use Rattle.measurer.specs.declared.Measured.the-variants as measured
 use Rattle.measurer.specs.Measuring.{Sequence, Measure, Measures}
 use Rattle.writer.specs.Written.{Writes, Room, nstack}
-use Rattle.writer.specs.Wanted.{Ready, TreesAt}
+use Rattle.writer.specs.Wanted.{Ready, TreeAt}
 use Rattle.writer.proofs.Calling.{ready-whole, room-whole, whole-written}
 use Rattle.runner.specs.declared.Ran.the-variants as ran
 use Rattle.runner.specs.Answers.{given, Applied, Building}
@@ -78,23 +78,23 @@ module _ {code : List ℕ} {at : ℕ} {subject entries work : List ℕ} (b : Bui
           pub too-far : 65536 < far → Applied code subject work work′ result result (ran.Refused ResultIndexTooLarge)
           too-far h = record { long = s .kept .long; says = made-far work result (told b) small shallow (rw (measure .reach) at h) ∙ answers }
 
+          pub may-write : (opened : List ℕ) → length opened ≡ 128
+              → Ready code subject entries work′ result opened (2 * n) 0 0 (length code)
+              × Room (TreeAt code subject entries work′ (length code) 0 0 0 (nstack 0 0 opened) z) (2 * n)
+          may-write opened l =
+              let k = measure .size in
+              let f = measure .fits in
+              (ready-whole opened scene′ (omega arith) l, room-whole opened z at (length code) (treeAt code at (length code)) (measure .stands) (safe b) (omega arith) shallow (omega arith))
+
           module _ (near : far ≤ 65536) where
             pub writes : (opened : List ℕ) {result′ : List ℕ} {first : ℕ}
-                → Writes (TreesAt code subject entries work′ (length code) 0 0 (nstack 0 0 opened) 1 z) result result′ first (2 * n)
+                → Writes (TreeAt code subject entries work′ (length code) 0 0 0 (nstack 0 0 opened) z) result result′ first (2 * n)
                 → Applied code subject work work′ result result′ (ran.Words (2 * n))
             writes opened {result′} {first} w =
                 let k = whole-written {code = code} {subject = subject} {entries = entries} {work = work′} opened z at (length code) (treeAt code at (length code)) (measure .stands) (safe b) (omega arith)
-                (rw (measure .size) at w)
+                shallow (rw (measure .size) at w)
                 in
                 record {
                   long = s .kept .long;
                   says = rw (measure .size) (made-fits work result (told b) small shallow (rw (measure .reach) at near) (k .1)) ∙ answers;
                 }
-
-      pub may-write : (opened : List ℕ) → length opened ≡ 64
-          → Ready code subject entries work′ result opened (2 * n) 0 0 (length code)
-          × Room (TreesAt code subject entries work′ (length code) 0 0 (nstack 0 0 opened) 1 z) (2 * n)
-      may-write opened l =
-          let k = measure .size in
-          let f = measure .fits in
-          (ready-whole opened scene′ (omega arith) l, room-whole opened z at (length code) (treeAt code at (length code)) (measure .stands) (safe b) (omega arith) (omega arith))

@@ -27,8 +27,8 @@ const WORKING_WORDS: usize = 8192;
 // Indices reach one further than the highest of them, which may be 65,535.
 const MOST_REACH: u32 = 65536;
 
-// Open LAMBDAs, and one more.
-const LAMBDAS: usize = 64;
+// Open LAMBDAs, and nodes above: a result is at most 64 deep.
+const OPENED: usize = 128;
 
 // The words of the result, or a refusal.
 pub enum Ran {
@@ -108,7 +108,7 @@ fn build(
     if MOST_REACH < reach {
         return Ran::Refused(Refusal::ResultIndexTooLarge);
     }
-    let mut opened = [0u32; LAMBDAS];
+    let mut opened = [0u32; OPENED];
     write(
         code,
         subject,
@@ -117,8 +117,8 @@ fn build(
         result,
         &mut opened,
         root,
-        1,
         2 * nodes,
+        0,
         0,
         0,
         end,

@@ -14,18 +14,19 @@ use Rattle.documents.specs.Terms.{Term, one, many}
 use Rattle.documents.specs.Tables.{tableOf, Fits, nodes, depth}
 use Rattle.documents.proofs.Lists.{on, T-of, of-and}
 use Rattle.documents.proofs.Tables.{length-tableOf}
-use Rattle.trees.specs.Trees.{Tree, Cell, Block, Bound, Whole, Pushed, Leaf, More, count, Writer, orMovedWords, spreadWords, wordsOf}
+use Rattle.trees.specs.Trees.{Tree, Cell, Block, Bound, Whole, Pushed, Leaf, More, count, orOne, depthOf, Writer, orMovedWords, spreadWords, wordsOf}
 use Rattle.trees.proofs.Sizes.{depth-positive, depth-nodes}
 use Rattle.survey.specs.Places.{place, placesOf}
 use Rattle.survey.proofs.Places.{length-places}
 use Rattle.links.specs.Bodies.{keyPlace}
-use Rattle.links.specs.Nodewise.{isFree, total, insideOf, nodeWords, seenAt, nodeSeen}
+use Rattle.links.specs.Nodewise.{isFree, total, insideOf, nodeDepth, nodeWords, seenAt, nodeSeen}
 use Rattle.links.specs.Standing.{entryPlace, entryAt, Scene, root}
 use Rattle.links.proofs.Gathered.{gathered, total-is}
 use Rattle.links.proofs.Entered.{entered}
+use Rattle.links.proofs.Spread.{spread-depth}
 use Rattle.writer.specs.Wanted.{movesNothing, Standing, TreeAt, EntryPart, FreeAt, Met}
 use Rattle.writer.proofs.Writings.{Splits}
-use Rattle.writer.proofs.Spreading.{spread-is, spread-same, total-none, total-more, total-each, Below, node-below}
+use Rattle.writer.proofs.Spreading.{spread-is, spread-same, total-none, total-more, total-each, total-greatest, Below, node-below}
 
 -- where the entry of an instruction at z stands
 pub record NamedAt (code subject entries work : List ℕ) (z : ℕ) : Type 0 where
@@ -38,13 +39,14 @@ pub record PushedAt (code : List ℕ) (z : ℕ) : Type 0 where
   pub shift : getD code (z + 2) 0 ≤ 127
   pub op : getD code z 0 ≡ 13
 
-module _ (code subject entries work : List ℕ) (words l offset : ℕ) (nst : List ℕ) (e z : ℕ) where
+module _ (code subject entries work : List ℕ) (words l level offset : ℕ) (nst : List ℕ) (e z : ℕ) where
   -- the words of the first k nodes of the entry e of a PUSHI at z
   pub record PartAt (k : ℕ) (ws : List ℕ) : Type 0 where
     pub D : ℕ
     pub ks : List ℕ
     pub bodies : Tree many
     pub standing : Standing code subject entries work words l (Pushed e D ks bodies) (root z)
+    pub shallow : level + depthOf (entryAt subject entries) (Pushed e D ks bodies) ≤ 64
     pub these : ws ≡ total _++_ []
         (nodeWords (assoc (pairlists ks (wordsOf (entryAt subject entries) bodies))) D offset nst (getD (drop 4096 work) (entryPlace entries e / 2) 0))
         k (drop (entryPlace entries e) subject) (drop (entryPlace entries e / 2) (drop 4096 work))
@@ -55,6 +57,7 @@ module _ (code subject entries work : List ℕ) (words l offset : ℕ) (nst : Li
     pub ks : List ℕ
     pub bodies : Tree many
     pub standing : Standing code subject entries work words l (Pushed e D ks bodies) (root z)
+    pub shallow : level + cond (isFree w n) (orOne (assoc (pairlists ks (depthOf (entryAt subject entries) bodies)) (w - n))) 1 ≤ 64
     pub these : ws ≡ cond (isFree w n) (orMovedWords (assoc (pairlists ks (wordsOf (entryAt subject entries) bodies)) (w - n)) D n w offset nst) (w ∷ c ∷ [])
 
 bare : (ks : List ℕ) (y : ℕ) → assoc {A = Writer} (pairlists ks []) y ≡ none
@@ -102,9 +105,9 @@ still-is code z offset op m =
     let b = of-and (eqb (getD code (z + 3) 0) 0) (eqb (getD code (z + 2) 0 + offset) 64) (T-of _ k) in
     (eqb-true _ _ (on _ (b .0)), eqb-true _ _ (on _ (b .1)))
 
-module _ {code subject entries work : List ℕ} {words l offset : ℕ} {nst : List ℕ} {z : ℕ} where
+module _ {code subject entries work : List ℕ} {words l level offset : ℕ} {nst : List ℕ} {z : ℕ} where
   module _ (above : 11 ≤ getD code z 0) (other : getD code z 0 ≡ 11 → ⊥) where
-    pub tree-named : {ws : List ℕ} → TreeAt code subject entries work words l offset nst z ws → NamedAt code subject entries work z
+    pub tree-named : {ws : List ℕ} → TreeAt code subject entries work words l level offset nst z ws → NamedAt code subject entries work z
     tree-named t = go (t .tree) (t .standing)
       where
         go : (p : Tree one) → Standing code subject entries work words l p (root z) → NamedAt code subject entries work z
@@ -118,7 +121,7 @@ module _ {code subject entries work : List ℕ} {words l offset : ℕ} {nst : Li
             let n = s .stands .1 in
             record { within = omega (arith, s .stands .0 .high, s .short); there = rw (n .operand) (n .there); end = rw (n .operand) (n .end) }
 
-    pub tree-pushed : {ws : List ℕ} → TreeAt code subject entries work words l offset nst z ws → (getD code z 0 ≡ 12 → ⊥) → PushedAt code z
+    pub tree-pushed : {ws : List ℕ} → TreeAt code subject entries work words l level offset nst z ws → (getD code z 0 ≡ 12 → ⊥) → PushedAt code z
     tree-pushed t whole = go (t .tree) (t .standing)
       where
         go : (p : Tree one) → Standing code subject entries work words l p (root z) → PushedAt code z
@@ -131,7 +134,7 @@ module _ {code subject entries work : List ℕ} {words l offset : ℕ} {nst : Li
             record { within = omega (arith, s .stands .0 .high, s .short); shift = rw (b .shift) (b .low); op = s .stands .0 .is }
 
     pub copied-words : Scene code subject entries work → movesNothing code z offset ≡ true → (first last : ℕ) → first ≡ entryPlace entries (getD code (z + 1) 0)
-        → last ≡ getD work (z + 1) 0 → (ws : List ℕ) → TreeAt code subject entries work words l offset nst z ws → ws ≡ take (last - first) (drop first subject)
+        → last ≡ getD work (z + 1) 0 → (ws : List ℕ) → TreeAt code subject entries work words l level offset nst z ws → ws ≡ take (last - first) (drop first subject)
     copied-words sc m first last f g ws t = go (t .tree) (t .standing) (t .these)
       where
         words-are : (e : ℕ) → getD code (z + 1) 0 ≡ e → e < length entries → getD work (z + 1) 0 ≡ entryPlace entries e + 2 * nodes (entryAt subject entries e)
@@ -153,14 +156,14 @@ module _ {code subject entries work : List ℕ} {words l offset : ℕ} {nst : Li
 
   -- ---- Node by node
 
-  pub tree-part : Scene code subject entries work → getD code z 0 ≡ 13 → (ws : List ℕ) → TreeAt code subject entries work words l offset nst z ws
-      → PartAt code subject entries work words l offset nst (getD code (z + 1) 0) z (nodes (entryAt subject entries (getD code (z + 1) 0))) ws
-  tree-part sc op ws t = go (t .tree) (t .standing) (t .these)
+  pub tree-part : Scene code subject entries work → getD code z 0 ≡ 13 → (ws : List ℕ) → TreeAt code subject entries work words l level offset nst z ws
+      → PartAt code subject entries work words l level offset nst (getD code (z + 1) 0) z (nodes (entryAt subject entries (getD code (z + 1) 0))) ws
+  tree-part sc op ws t = go (t .tree) (t .standing) (t .shallow) (t .these)
     where
       all : (e D : ℕ) (ks : List ℕ) (ps : Tree many) → Standing code subject entries work words l (Pushed e D ks ps) (root z)
-          → ws ≡ wordsOf (entryAt subject entries) (Pushed e D ks ps) offset nst
-          → PartAt code subject entries work words l offset nst e z (nodes (entryAt subject entries e)) ws
-      all e D ks ps s q =
+          → level + depthOf (entryAt subject entries) (Pushed e D ks ps) ≤ 64 → ws ≡ wordsOf (entryAt subject entries) (Pushed e D ks ps) offset nst
+          → PartAt code subject entries work words l level offset nst e z (nodes (entryAt subject entries e)) ws
+      all e D ks ps s d q =
           let n = entered sc e (s .stands .1 .there) in
           let i = n .shallow in
           record {
@@ -168,6 +171,7 @@ module _ {code subject entries work : List ℕ} {words l offset : ℕ} {nst : Li
             ks = ks;
             bodies = ps;
             standing = s;
+            shallow = d;
             these =
                 q
                 ∙ spread-total (assoc (pairlists ks (wordsOf (entryAt subject entries) ps))) D offset nst (entryAt subject entries e)
@@ -175,15 +179,15 @@ module _ {code subject entries work : List ℕ} {words l offset : ℕ} {nst : Li
                 (getD (drop 4096 work) (entryPlace entries e / 2) 0) (n .level) (n .above) (n .words) (n .placed-so) (n .root) (n .fits) (omega arith);
           }
 
-      go : (p : Tree one) → Standing code subject entries work words l p (root z) → ws ≡ wordsOf (entryAt subject entries) p offset nst
-          → PartAt code subject entries work words l offset nst (getD code (z + 1) 0) z (nodes (entryAt subject entries (getD code (z + 1) 0))) ws
-      go (Cell x ps) s e = absurd (omega (arith, op, s .stands .0 .is))
-      go (Block p) s e = absurd (omega (arith, op, s .stands .0 .is))
-      go (Bound x) s e = absurd (omega (arith, op, s .stands .0 .is))
-      go (Whole x) s e = absurd (omega (arith, op, s .stands .0 .is))
-      go (Pushed x D ks ps) s e = rw (s .stands .1 .operand) (all x D ks ps s e)
+      go : (p : Tree one) → Standing code subject entries work words l p (root z) → level + depthOf (entryAt subject entries) p ≤ 64 → ws ≡ wordsOf (entryAt subject entries) p offset nst
+          → PartAt code subject entries work words l level offset nst (getD code (z + 1) 0) z (nodes (entryAt subject entries (getD code (z + 1) 0))) ws
+      go (Cell x ps) s d e = absurd (omega (arith, op, s .stands .0 .is))
+      go (Block p) s d e = absurd (omega (arith, op, s .stands .0 .is))
+      go (Bound x) s d e = absurd (omega (arith, op, s .stands .0 .is))
+      go (Whole x) s d e = absurd (omega (arith, op, s .stands .0 .is))
+      go (Pushed x D ks ps) s d e = rw (s .stands .1 .operand) (all x D ks ps s d e)
 
-  pub part-none : {e : ℕ} (ws : List ℕ) (k : ℕ) → k ≡ 0 → PartAt code subject entries work words l offset nst e z k ws → ws ≡ []
+  pub part-none : {e : ℕ} (ws : List ℕ) (k : ℕ) → k ≡ 0 → PartAt code subject entries work words l level offset nst e z k ws → ws ≡ []
   part-none {e = e} ws k h p = p .these ∙ rw h (total-none _++_ [] _ _ _)
 
 -- ---- A node of an entry: where the walk reads it
@@ -277,9 +281,23 @@ module _ {code subject entries work : List ℕ} (sc : Scene code subject entries
         below-so (entryAt subject entries e) (drop (entryPlace entries e / 2) (drop 4096 work)) (n .laterPlaces) rootPlace (n .level) (n .above) k herePlace (n .placed-so)
         (sym root-read ∙ n .root) place-read (omega arith) few
 
-    module _ {words l offset : ℕ} {nst : List ℕ} {z : ℕ} where
-      pub part-split : Splits (PartAt code subject entries work words l offset nst e z (suc k)) (PartAt code subject entries work words l offset nst e z k)
-          (NodeAt code subject entries work words l offset nst e z (getD part at 0) (getD part (at + 1) 0) (insideOf rootPlace herePlace))
+    -- no variable of the entry has a body deeper than the whole
+    node-shallow : (level D : ℕ) (ks : List ℕ) (ps : Tree many) → level + depthOf (entryAt subject entries) (Pushed e D ks ps) ≤ 64
+        → level + cond (isFree (getD part at 0) (insideOf rootPlace herePlace))
+        (orOne (assoc (pairlists ks (depthOf (entryAt subject entries) ps)) (getD part at 0 - insideOf rootPlace herePlace))) 1 ≤ 64
+    node-shallow level D ks ps h =
+        let f : ℕ → Option ℕ = assoc (pairlists ks (depthOf (entryAt subject entries) ps)) in
+        let g : ℕ → ℕ → ℕ → ℕ = nodeDepth f (getD (drop 4096 work) (entryPlace entries e / 2) 0) in
+        let ws : List ℕ = drop (entryPlace entries e) subject in
+        let hs : List ℕ = drop (entryPlace entries e / 2) (drop 4096 work) in
+        let i = total-greatest g size k ws hs long-words long-places few in
+        let j = spread-depth (entered sc e (d .there)) f in
+        let n : g (getD ws (2 * k) 0) (getD ws (2 * k + 1) 0) (getD hs k 0) ≡ nodeDepth f rootPlace (getD part at 0) 0 herePlace = rw (root-read, word, place-read) in
+        omega (arith, h, i, j, n)
+
+    module _ {words l level offset : ℕ} {nst : List ℕ} {z : ℕ} where
+      pub part-split : Splits (PartAt code subject entries work words l level offset nst e z (suc k)) (PartAt code subject entries work words l level offset nst e z k)
+          (NodeAt code subject entries work words l level offset nst e z (getD part at 0) (getD part (at + 1) 0) (insideOf rootPlace herePlace))
       part-split = record {
         parts = λ ws p.
             let g : ℕ → ℕ → ℕ → List ℕ =
@@ -290,18 +308,19 @@ module _ {code subject entries work : List ℕ} (sc : Scene code subject entries
               _,
               _,
               p .these ∙ total-more _++_ [] g append-assoc (λ v. refl) append-nil k _ _ (omega arith) (omega arith),
-              record { D = p .D; ks = p .ks; bodies = p .bodies; standing = p .standing; these = refl },
+              record { D = p .D; ks = p .ks; bodies = p .bodies; standing = p .standing; shallow = p .shallow; these = refl },
               record {
                 D = p .D;
                 ks = p .ks;
                 bodies = p .bodies;
                 standing = p .standing;
+                shallow = node-shallow level (p .D) (p .ks) (p .bodies) (p .shallow);
                 these = ap₂ (λ w c. g w c (getD (drop (entryPlace entries e / 2) (drop 4096 work)) k 0)) word word₂ ∙ rw (root-read, place-read);
               },
             );
       }
 
-      pub part-met : {ws : List ℕ} (j : ℕ) → PartAt code subject entries work words l offset nst e z j ws → isFree (getD part at 0) (insideOf rootPlace herePlace) ≡ true
+      pub part-met : {ws : List ℕ} (j : ℕ) → PartAt code subject entries work words l level offset nst e z j ws → isFree (getD part at 0) (insideOf rootPlace herePlace) ≡ true
           → Met code work z (getD part at 0) (insideOf rootPlace herePlace)
       part-met j p free = record {
         free = free;
@@ -318,9 +337,9 @@ module _ {code subject entries work : List ℕ} (sc : Scene code subject entries
             rw (s .stands .2 .keys) (rw (root-read, free) at h);
       }
 
-module _ {code subject entries work : List ℕ} {words l offset : ℕ} {nst : List ℕ} {e z w c n : ℕ} (ws : List ℕ) where
-  pub node-free : isFree w n ≡ true → NodeAt code subject entries work words l offset nst e z w c n ws → FreeAt code subject entries work words l offset nst z w n ws
-  node-free f p = record { e = e; D = p .D; ks = p .ks; bodies = p .bodies; standing = p .standing; these = p .these ∙ rw f }
+module _ {code subject entries work : List ℕ} {words l level offset : ℕ} {nst : List ℕ} {e z w c n : ℕ} (ws : List ℕ) where
+  pub node-free : isFree w n ≡ true → NodeAt code subject entries work words l level offset nst e z w c n ws → FreeAt code subject entries work words l level offset nst z w n ws
+  node-free f p = record { e = e; D = p .D; ks = p .ks; bodies = p .bodies; standing = p .standing; shallow = rw f at (p .shallow); these = p .these ∙ rw f }
 
-  pub node-kept : isFree w n ≡ false → NodeAt code subject entries work words l offset nst e z w c n ws → ws ≡ w ∷ c ∷ []
+  pub node-kept : isFree w n ≡ false → NodeAt code subject entries work words l level offset nst e z w c n ws → ws ≡ w ∷ c ∷ []
   node-kept f p = p .these ∙ rw f

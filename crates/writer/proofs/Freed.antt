@@ -1,23 +1,23 @@
 -- A variable that is free in an entry: its body, found behind its key, or its own index.
-use mathlib.Core.Path.{_≡_, refl, sym, ap, _∙_}
+use mathlib.Core.Path.{_≡_, refl, ap, _∙_}
 use mathlib.Core.Logic.{_⊎_, inl, inr, ⊎-elim}
 use Prim.Native.Nat.{ℕ, _+_, _-_, _*_, _≤_, _<_}
 use native.Mathlib.Omega.{arith}
 use mathlib.Core.Bool.{Bool, true, false, not, cond}
 use mathlib.Core.Option.{Option, none, some}
-use mathlib.Core.List.{List, [], _∷_, map, append-nil}
+use mathlib.Core.List.{List, [], _∷_, map}
 use lib.Dec.{eqb, leb, ltb}
 use lib.ListN.{length, getD, drop}
 use borrow.Author.Tests.{eq-eqb, leb-true, ltb-true}
 use Rattle.documents.specs.Lists.{assoc, pairlists}
 use Rattle.documents.specs.Terms.{one, many}
 use Rattle.documents.proofs.Lists.{never, on, T-of, of-and}
-use Rattle.trees.specs.Trees.{Tree, Leaf, More, count, Writer, orMovedWords, wordsOf}
+use Rattle.trees.specs.Trees.{Tree, Leaf, More, count, orOne, depthOf, Writer, orMovedWords, wordsOf}
 use Rattle.links.specs.declared.find.Found.the-variants.{Key, Missing}
 use Rattle.links.specs.Bodies.{bodyEnd, Readable, keyPlace, foundAt}
 use Rattle.links.specs.Nodewise.{isFree, seenAt}
 use Rattle.links.specs.Standing.{entryAt, Safe, root, held, Stands}
-use Rattle.writer.specs.Wanted.{TreesAt, FreeAt, Met}
+use Rattle.writer.specs.Wanted.{TreeAt, FreeAt, Met}
 
 pub key-found : (o : Option ℕ) (key : ℕ) → foundAt o ≡ Key key → o ≡ some key
 key-found none key e = never (cc)
@@ -42,6 +42,7 @@ module _ (code subject entries work : List ℕ) (lo hi l : ℕ) where
   -- the body behind the key that was found
   record BodyAt (ks : List ℕ) (ps : Tree many) (y key : ℕ) : Type 0 where
     body : Tree one
+    deep : assoc (pairlists ks (depthOf (entryAt subject entries) ps)) y ≡ some (depthOf (entryAt subject entries) body)
     found : assoc (pairlists ks (wordsOf (entryAt subject entries) ps)) y ≡ some (wordsOf (entryAt subject entries) body)
     low : lo ≤ key
     high : bodyEnd code key ≤ hi
@@ -60,12 +61,12 @@ module _ (code subject entries work : List ℕ) (lo hi l : ℕ) where
       measured = ⊎-elim (λ z. inl z) (λ z. inr (z .1)) (s .1)
 
       later : BodyAt ks ps y key → eqb k y ≡ false → BodyAt (k ∷ ks) (More p ps) y key
-      later b t = record { body = b .body; found = rw t (b .found); low = b .low; high = b .high; safe = b .safe; stands = b .stands }
+      later b t = record { body = b .body; deep = rw t (b .deep); found = rw t (b .found); low = b .low; high = b .high; safe = b .safe; stands = b .stands }
 
       go : (t : Bool) → eqb k y ≡ t → (keyPlace code (bodyEnd code q) (count ps) y ≡ some key → BodyAt ks ps y key) → cond t (some q) (keyPlace code (bodyEnd code q) (count ps) y) ≡ some key → BodyAt (k ∷ ks) (More p ps) y key
       go true t r e =
           let z : q ≡ key = cc in
-          rw (← z) (record { body = p; found = rw t; low = s .0 .low; high = s .0 .high; safe = f .0; stands = measured })
+          rw (← z) (record { body = p; deep = rw t; found = rw t; low = s .0 .low; high = s .0 .high; safe = f .0; stands = measured })
       go false t r e = later (r e) t
 
   held-none : (ps : Tree many) (ks : List ℕ) (q y : ℕ) → Stands code subject entries (drop 4096 work) lo hi work ps (held ks q)
@@ -95,8 +96,8 @@ pub record Freeing (code : List ℕ) (z : ℕ) : Type 0 where
   pub shift : getD code (z + 2) 0 ≤ 127
   pub bodies : Readable code (z + 4) (getD code (z + 3) 0)
 
-module _ {code subject entries work : List ℕ} {words l offset : ℕ} {nst : List ℕ} {z x n : ℕ} where
-  pub free-readable : {ws : List ℕ} → FreeAt code subject entries work words l offset nst z x n ws → Freeing code z
+module _ {code subject entries work : List ℕ} {words l level offset : ℕ} {nst : List ℕ} {z x n : ℕ} where
+  pub free-readable : {ws : List ℕ} → FreeAt code subject entries work words l level offset nst z x n ws → Freeing code z
   free-readable t =
       let s = t .standing in
       let b = s .stands .2 in
@@ -108,7 +109,7 @@ module _ {code subject entries work : List ℕ} {words l offset : ℕ} {nst : Li
         bodies = rw (b .keys) (held-readable code subject entries work (s .lo) (s .hi) l (t .bodies) (t .ks) (z + 4) (s .stands .4) (omega arith) m);
       }
 
-  pub free-moved : keyPlace code (z + 4) (getD code (z + 3) 0) (x - n) ≡ none → (ws : List ℕ) → FreeAt code subject entries work words l offset nst z x n ws
+  pub free-moved : keyPlace code (z + 4) (getD code (z + 3) 0) (x - n) ≡ none → (ws : List ℕ) → FreeAt code subject entries work words l level offset nst z x n ws
       → ws ≡ (x + (getD code (z + 2) 0 + offset) - 64) ∷ 0 ∷ []
   free-moved k ws t =
       let s = t .standing in
@@ -119,14 +120,14 @@ module _ {code subject entries work : List ℕ} {words l offset : ℕ} {nst : Li
       ∙ rw (y, b .shift)
 
   module _ (m : Met code work z x n) (key : ℕ) (k : keyPlace code (z + 4) (getD code (z + 3) 0) (x - n) ≡ some key) where
-    body-at : {ws : List ℕ} (t : FreeAt code subject entries work words l offset nst z x n ws)
+    body-at : {ws : List ℕ} (t : FreeAt code subject entries work words l level offset nst z x n ws)
         → BodyAt code subject entries work (t .standing .lo) (t .standing .hi) l (t .ks) (t .bodies) (x - n) key
     body-at t =
         let s = t .standing in
         held-found code subject entries work (s .lo) (s .hi) l (t .bodies) (t .ks) (z + 4) (x - n) key (s .stands .4) (s .safe .1) (rw (s .stands .2 .keys) at k)
 
     -- its words are fewer than those around it
-    pub free-falls : {ws : List ℕ} → FreeAt code subject entries work words l offset nst z x n ws → (key + 1 < length code) × (getD code (key + 1) 0 + 2 ≤ words)
+    pub free-falls : {ws : List ℕ} → FreeAt code subject entries work words l level offset nst z x n ws → (key + 1 < length code) × (getD code (key + 1) 0 + 2 ≤ words)
     free-falls t =
         let s = t .standing in
         let b = body-at t in
@@ -136,25 +137,23 @@ module _ {code subject entries work : List ℕ} {words l offset : ℕ} {nst : Li
         let j = s .few in
         (omega arith, omega arith)
 
-    pub free-body : (raised : List ℕ) → raised ≡ map (λ y. y + n) nst → (ws : List ℕ) → FreeAt code subject entries work words l offset nst z x n ws
-        → TreesAt code subject entries work (getD code (key + 1) 0) l (offset + n) raised 1 (getD work key 0) ws
+    pub free-body : (raised : List ℕ) → raised ≡ map (λ y. y + n) nst → (ws : List ℕ) → FreeAt code subject entries work words l level offset nst z x n ws
+        → TreeAt code subject entries work (getD code (key + 1) 0) l level (offset + n) raised (getD work key 0) ws
     free-body raised r ws t =
         let s = t .standing in
         let b = body-at t in
         let i = s .short in
         let j = b .high in
         record {
-          trees = More (b .body) Leaf;
-          counted = refl;
+          tree = b .body;
           standing = record {
             lo = key + 2;
             hi = bodyEnd code key;
-            stands = (tt, ⊎-elim (λ q. absurd (seen-is work _ key k (m .seen) q)) (λ q. q) (b .stands));
-            safe = (b .safe, tt);
+            stands = ⊎-elim (λ q. absurd (seen-is work _ key k (m .seen) q)) (λ q. q) (b .stands);
+            safe = b .safe;
             short = omega arith;
             few = omega arith;
           };
-          these =
-              t .these ∙ ap (λ (o : Option Writer). orMovedWords o (t .D) n x offset nst) (b .found)
-              ∙ rw r (sym (append-nil (wordsOf (entryAt subject entries) (b .body) (offset + n) (map (λ y. y + n) nst))));
+          shallow = let d = ap (λ (o : Option ℕ). orOne o) (b .deep) in omega (arith, d, t .shallow);
+          these = t .these ∙ ap (λ (o : Option Writer). orMovedWords o (t .D) n x offset nst) (b .found) ∙ rw r;
         }

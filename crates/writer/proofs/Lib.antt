@@ -4,6 +4,7 @@ pub mod Moves
 pub mod Nodes
 pub mod Spreading
 pub mod Rooting
+pub mod Waiting
 pub mod Entries
 pub mod Freed
 pub mod Walking

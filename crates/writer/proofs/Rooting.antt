@@ -5,11 +5,20 @@ use native.Mathlib.Omega.{arith}
 use mathlib.Core.List.{List, [], _∷_, _++_, append-assoc, append-nil}
 use lib.ListN.{length, getD, drop}
 use Rattle.documents.specs.Terms.{Term, one, many}
-use Rattle.trees.specs.Trees.{Tree, Cell, Block, Bound, Whole, Pushed, Leaf, More, count, inOrder, wordsOf}
+use Rattle.trees.specs.Trees.{Tree, Cell, Block, Bound, Whole, Pushed, Leaf, More, count, greatest, depthOf, inOrder, wordsOf}
 use Rattle.links.specs.Links.{beforeIn, overIn}
 use Rattle.links.specs.Standing.{entryAt, Safe, root, last, back, Stands}
-use Rattle.writer.specs.Wanted.{Standing, TreesAt, TreeAt}
+use Rattle.writer.specs.Wanted.{Standing, TreeAt}
 use Rattle.writer.proofs.Writings.{Splits, Exactly}
+
+-- the words of n trees, the root of the last given
+module _ (code subject entries work : List ℕ) (words l level offset : ℕ) (nst : List ℕ) where
+  pub record TreesAt (n z : ℕ) (ws : List ℕ) : Type 0 where
+    pub trees : Tree many
+    pub counted : count trees ≡ n
+    pub standing : Standing code subject entries work words l trees (last z)
+    pub shallow : level + greatest (depthOf (entryAt subject entries) trees) ≤ 64
+    pub these : ws ≡ inOrder (wordsOf (entryAt subject entries) trees) offset nst
 
 -- ---- The last of trees, and those before it
 
@@ -29,6 +38,11 @@ first-safe : (l : ℕ) (p : Tree one) (ps : Tree many) → Safe l p → Safe l p
 first-safe l p Leaf h k = (tt, h)
 first-safe l p (More q qs) h k = let r = first-safe l q qs (k .0) (k .1) in ((h, r .0), r .1)
 
+first-deep : (ent : ℕ → Term) (p : Tree one) (ps : Tree many)
+    → (greatest (depthOf ent (firstOf p ps)) ≤ greatest (depthOf ent (More p ps))) × (depthOf ent (lastOf p ps) ≤ greatest (depthOf ent (More p ps)))
+first-deep ent p Leaf = (omega arith, omega arith)
+first-deep ent p (More q qs) = let r = first-deep ent q qs in (omega (arith, r .0), omega (arith, r .1))
+
 first-words : (ent : ℕ → Term) (p : Tree one) (ps : Tree many) (off : ℕ) (nst : List ℕ)
     → inOrder (wordsOf ent (More p ps)) off nst ≡ inOrder (wordsOf ent (firstOf p ps)) off nst ++ wordsOf ent (lastOf p ps) off nst
 first-words ent p Leaf off nst = append-nil (wordsOf ent p off nst)
@@ -44,22 +58,17 @@ module _ (code subject entries places : List ℕ) (lo hi : ℕ) (work : List ℕ
       let r = first-stands q qs z (h .0) (h .1) in
       ((r .0, rw (first-count q qs) k), r .1)
 
--- where a tree's root stands, and the roots that its link names
-pub record At (code work : List ℕ) (z : ℕ) : Type 0 where
-  pub within : z < length code
-  pub over : overIn (getD work z 0) < z
-  pub before : beforeIn (getD work z 0) < z
-
 pub record CellAt (code : List ℕ) (z : ℕ) : Type 0 where
   pub within : z + 2 < length code
   pub name : getD code (z + 1) 0 ≤ 65535
+  pub few : getD code (z + 2) 0 ≤ 8
 
 pub record BoundAt (code : List ℕ) (l z : ℕ) : Type 0 where
   pub within : z + 1 < length code
   pub low : getD code (z + 1) 0 < l
 
-module _ {code subject entries work : List ℕ} {words l offset : ℕ} {nst : List ℕ} where
-  pub trees-none : {n z : ℕ} (ws : List ℕ) → n ≤ 0 → TreesAt code subject entries work words l offset nst n z ws → ws ≡ []
+module _ {code subject entries work : List ℕ} {words l level offset : ℕ} {nst : List ℕ} where
+  pub trees-none : {n z : ℕ} (ws : List ℕ) → n ≤ 0 → TreesAt code subject entries work words l level offset nst n z ws → ws ≡ []
   trees-none {n = n} {z = z} ws h t = go (t .trees) (t .counted) (t .these)
     where
       go : (ps : Tree many) → count ps ≡ n → ws ≡ inOrder (wordsOf (entryAt subject entries) ps) offset nst → ws ≡ []
@@ -67,18 +76,19 @@ module _ {code subject entries work : List ℕ} {words l offset : ℕ} {nst : Li
       go (More p ps) c e = absurd (omega arith)
 
   pub trees-split : {n z : ℕ} → 0 < n
-      → Splits (TreesAt code subject entries work words l offset nst n z) (TreesAt code subject entries work words l offset nst (n - 1) (beforeIn (getD work z 0)))
-      (TreeAt code subject entries work words l offset nst z)
-  trees-split {n = n} {z = z} h = record { parts = λ ws t. go ws (t .trees) (t .counted) (t .standing) (t .these) }
+      → Splits (TreesAt code subject entries work words l level offset nst n z) (TreesAt code subject entries work words l level offset nst (n - 1) (beforeIn (getD work z 0)))
+      (TreeAt code subject entries work words l level offset nst z)
+  trees-split {n = n} {z = z} h = record { parts = λ ws t. go ws (t .trees) (t .counted) (t .standing) (t .shallow) (t .these) }
     where
       go : (ws : List ℕ) (ps : Tree many) → count ps ≡ n → Standing code subject entries work words l ps (last z)
-          → ws ≡ inOrder (wordsOf (entryAt subject entries) ps) offset nst
-          → (us : List ℕ) × (vs : List ℕ) × (ws ≡ us ++ vs) × TreesAt code subject entries work words l offset nst (n - 1) (beforeIn (getD work z 0)) us
-          × TreeAt code subject entries work words l offset nst z vs
-      go ws Leaf c s e = absurd (omega arith)
-      go ws (More p ps) c s e =
+          → level + greatest (depthOf (entryAt subject entries) ps) ≤ 64 → ws ≡ inOrder (wordsOf (entryAt subject entries) ps) offset nst
+          → (us : List ℕ) × (vs : List ℕ) × (ws ≡ us ++ vs) × TreesAt code subject entries work words l level offset nst (n - 1) (beforeIn (getD work z 0)) us
+          × TreeAt code subject entries work words l level offset nst z vs
+      go ws Leaf c s d e = absurd (omega arith)
+      go ws (More p ps) c s d e =
           let r = first-stands code subject entries (drop 4096 work) (s .lo) (s .hi) work p ps z (s .stands .0) (s .stands .1) in
           let k = first-safe l p ps (s .safe .0) (s .safe .1) in
+          let i = first-deep (entryAt subject entries) p ps in
           let m = first-count p ps in (
             _,
             _,
@@ -87,57 +97,66 @@ module _ {code subject entries work : List ℕ} {words l offset : ℕ} {nst : Li
               trees = firstOf p ps;
               counted = omega arith;
               standing = record { lo = s .lo; hi = s .hi; stands = r .0; safe = k .0; short = s .short; few = s .few };
+              shallow = omega (arith, d, i .0);
               these = refl;
             },
             record {
               tree = lastOf p ps;
               standing = record { lo = s .lo; hi = s .hi; stands = r .1; safe = k .1; short = s .short; few = s .few };
+              shallow = omega (arith, d, i .1);
               these = refl;
             },
           )
 
   -- one tree
-  pub tree-only : {z : ℕ} (ws : List ℕ) → TreesAt code subject entries work words l offset nst 1 z ws → TreeAt code subject entries work words l offset nst z ws
-  tree-only {z = z} ws t =
-      let p = trees-split {n = 1} {z = z} (omega arith) .parts ws t in
-      let r = p .4 in
-      record { tree = r .tree; standing = r .standing; these = p .2 ∙ ap (λ (us : List ℕ). us ++ p .1) (trees-none (p .0) (omega arith) (p .3)) ∙ r .these }
+  pub trees-one : {z : ℕ} {ws : List ℕ} → TreeAt code subject entries work words l level offset nst z ws → TreesAt code subject entries work words l level offset nst 1 z ws
+  trees-one t =
+      let s = t .standing in
+      let d = t .shallow in
+      record {
+        trees = More (t .tree) Leaf;
+        counted = refl;
+        standing = record { lo = s .lo; hi = s .hi; stands = (tt, s .stands); safe = (s .safe, tt); short = s .short; few = s .few };
+        shallow = omega arith;
+        these = t .these ∙ sym (append-nil _);
+      }
 
   -- ---- A root
 
-  pub tree-root : {z : ℕ} {ws : List ℕ} → TreeAt code subject entries work words l offset nst z ws → At code work z
+  pub tree-root : {z : ℕ} {ws : List ℕ} → TreeAt code subject entries work words l level offset nst z ws → z < length code
   tree-root {z = z} t = go (t .tree) (t .standing)
     where
-      go : (p : Tree one) → Standing code subject entries work words l p (root z) → At code work z
-      go (Cell x ps) s = let r = s .stands .0 in record { within = omega (arith, r .high, s .short); over = r .over-falls; before = r .before-falls }
-      go (Block p) s = let r = s .stands .0 in record { within = omega (arith, r .high, s .short); over = r .over-falls; before = r .before-falls }
-      go (Bound x) s = let r = s .stands .0 in record { within = omega (arith, r .high, s .short); over = r .over-falls; before = r .before-falls }
-      go (Whole e) s = let r = s .stands .0 in record { within = omega (arith, r .high, s .short); over = r .over-falls; before = r .before-falls }
-      go (Pushed e D ks ps) s = let r = s .stands .0 in record { within = omega (arith, r .high, s .short); over = r .over-falls; before = r .before-falls }
+      go : (p : Tree one) → Standing code subject entries work words l p (root z) → z < length code
+      go (Cell x ps) s = omega (arith, s .stands .0 .high, s .short)
+      go (Block p) s = omega (arith, s .stands .0 .high, s .short)
+      go (Bound x) s = omega (arith, s .stands .0 .high, s .short)
+      go (Whole e) s = omega (arith, s .stands .0 .high, s .short)
+      go (Pushed e D ks ps) s = omega (arith, s .stands .0 .high, s .short)
 
   -- ---- A CELL
 
   module _ {z : ℕ} (op : getD code z 0 ≡ 8) where
-    pub tree-cell : {ws : List ℕ} → TreeAt code subject entries work words l offset nst z ws → CellAt code z
+    pub tree-cell : {ws : List ℕ} → TreeAt code subject entries work words l level offset nst z ws → CellAt code z
     tree-cell t = go (t .tree) (t .standing)
       where
         go : (p : Tree one) → Standing code subject entries work words l p (root z) → CellAt code z
         go (Cell x ps) s =
             let r = s .stands .0 in
-            record { within = omega (arith, r .high, s .short); name = omega (arith, s .stands .1, s .safe .0) }
+            record { within = omega (arith, r .high, s .short); name = omega (arith, s .stands .1, s .safe .0); few = omega (arith, s .stands .2, s .safe .1) }
         go (Block p) s = absurd (omega (arith, op, s .stands .0 .is))
         go (Bound x) s = absurd (omega (arith, op, s .stands .0 .is))
         go (Whole e) s = absurd (omega (arith, op, s .stands .0 .is))
         go (Pushed e D ks ps) s = absurd (omega (arith, op, s .stands .0 .is))
 
-    pub cell-split : Splits (TreeAt code subject entries work words l offset nst z) (Exactly ((65536 + getD code (z + 1) 0) ∷ getD code (z + 2) 0 ∷ []))
-        (TreesAt code subject entries work words l offset nst (getD code (z + 2) 0) (overIn (getD work z 0)))
-    cell-split = record { parts = λ ws t. go ws (t .tree) (t .standing) (t .these) }
+    pub cell-split : Splits (TreeAt code subject entries work words l level offset nst z) (Exactly ((65536 + getD code (z + 1) 0) ∷ getD code (z + 2) 0 ∷ []))
+        (TreesAt code subject entries work words l (level + 1) offset nst (getD code (z + 2) 0) (overIn (getD work z 0)))
+    cell-split = record { parts = λ ws t. go ws (t .tree) (t .standing) (t .shallow) (t .these) }
       where
-        go : (ws : List ℕ) (p : Tree one) → Standing code subject entries work words l p (root z) → ws ≡ wordsOf (entryAt subject entries) p offset nst
+        go : (ws : List ℕ) (p : Tree one) → Standing code subject entries work words l p (root z) → level + depthOf (entryAt subject entries) p ≤ 64
+            → ws ≡ wordsOf (entryAt subject entries) p offset nst
             → (us : List ℕ) × (vs : List ℕ) × (ws ≡ us ++ vs) × Exactly ((65536 + getD code (z + 1) 0) ∷ getD code (z + 2) 0 ∷ []) us
-            × TreesAt code subject entries work words l offset nst (getD code (z + 2) 0) (overIn (getD work z 0)) vs
-        go ws (Cell x ps) s e = (
+            × TreesAt code subject entries work words l (level + 1) offset nst (getD code (z + 2) 0) (overIn (getD work z 0)) vs
+        go ws (Cell x ps) s d e = (
           (65536 + getD code (z + 1) 0) ∷ getD code (z + 2) 0 ∷ [],
           inOrder (wordsOf (entryAt subject entries) ps) offset nst,
           e ∙ rw (s .stands .1, s .stands .2),
@@ -146,18 +165,19 @@ module _ {code subject entries work : List ℕ} {words l offset : ℕ} {nst : Li
             trees = ps;
             counted = sym (s .stands .2);
             standing = record { lo = s .lo; hi = s .hi; stands = s .stands .3; safe = s .safe .2; short = s .short; few = s .few };
+            shallow = omega arith;
             these = refl;
           },
         )
-        go ws (Block p) s e = absurd (omega (arith, op, s .stands .0 .is))
-        go ws (Bound x) s e = absurd (omega (arith, op, s .stands .0 .is))
-        go ws (Whole x) s e = absurd (omega (arith, op, s .stands .0 .is))
-        go ws (Pushed x D ks ps) s e = absurd (omega (arith, op, s .stands .0 .is))
+        go ws (Block p) s d e = absurd (omega (arith, op, s .stands .0 .is))
+        go ws (Bound x) s d e = absurd (omega (arith, op, s .stands .0 .is))
+        go ws (Whole x) s d e = absurd (omega (arith, op, s .stands .0 .is))
+        go ws (Pushed x D ks ps) s d e = absurd (omega (arith, op, s .stands .0 .is))
 
   -- ---- An ADBMAL
 
   module _ {z : ℕ} (below : getD code z 0 < 11) (op : getD code z 0 ≡ 8 → ⊥) where
-    pub tree-block : {ws : List ℕ} → TreeAt code subject entries work words l offset nst z ws → l < 63
+    pub tree-block : {ws : List ℕ} → TreeAt code subject entries work words l level offset nst z ws → l < 63
     tree-block t = go (t .tree) (t .standing)
       where
         go : (p : Tree one) → Standing code subject entries work words l p (root z) → l < 63
@@ -167,15 +187,16 @@ module _ {code subject entries work : List ℕ} {words l offset : ℕ} {nst : Li
         go (Whole e) s = absurd (omega (arith, below, s .stands .0 .is))
         go (Pushed e D ks ps) s = absurd (omega (arith, below, s .stands .0 .is))
 
-    pub block-split : (opened : List ℕ) → opened ≡ 0 ∷ nst → Splits (TreeAt code subject entries work words l offset nst z) (Exactly (196608 ∷ 1 ∷ []))
-        (TreesAt code subject entries work words (l + 1) offset opened 1 (overIn (getD work z 0)))
-    block-split opened q = record { parts = λ ws t. go ws (t .tree) (t .standing) (t .these) }
+    pub block-split : (opened : List ℕ) → opened ≡ 0 ∷ nst → Splits (TreeAt code subject entries work words l level offset nst z) (Exactly (196608 ∷ 1 ∷ []))
+        (TreesAt code subject entries work words (l + 1) (level + 1) offset opened 1 (overIn (getD work z 0)))
+    block-split opened q = record { parts = λ ws t. go ws (t .tree) (t .standing) (t .shallow) (t .these) }
       where
-        go : (ws : List ℕ) (p : Tree one) → Standing code subject entries work words l p (root z) → ws ≡ wordsOf (entryAt subject entries) p offset nst
+        go : (ws : List ℕ) (p : Tree one) → Standing code subject entries work words l p (root z) → level + depthOf (entryAt subject entries) p ≤ 64
+            → ws ≡ wordsOf (entryAt subject entries) p offset nst
             → (us : List ℕ) × (vs : List ℕ) × (ws ≡ us ++ vs) × Exactly (196608 ∷ 1 ∷ []) us
-            × TreesAt code subject entries work words (l + 1) offset opened 1 (overIn (getD work z 0)) vs
-        go ws (Cell x ps) s e = absurd (op (s .stands .0 .is))
-        go ws (Block p) s e =
+            × TreesAt code subject entries work words (l + 1) (level + 1) offset opened 1 (overIn (getD work z 0)) vs
+        go ws (Cell x ps) s d e = absurd (op (s .stands .0 .is))
+        go ws (Block p) s d e =
             let y : l + 1 ≡ suc l = omega arith in (
               196608 ∷ 1 ∷ [],
               wordsOf (entryAt subject entries) p offset (0 ∷ nst),
@@ -185,16 +206,17 @@ module _ {code subject entries work : List ℕ} {words l offset : ℕ} {nst : Li
                 trees = More p Leaf;
                 counted = refl;
                 standing = record { lo = s .lo; hi = s .hi; stands = (tt, s .stands .1); safe = rw y (s .safe .1, tt); short = s .short; few = s .few };
+                shallow = omega arith;
                 these = rw q (sym (append-nil (wordsOf (entryAt subject entries) p offset (0 ∷ nst))));
               },
             )
-        go ws (Bound x) s e = absurd (omega (arith, below, s .stands .0 .is))
-        go ws (Whole x) s e = absurd (omega (arith, below, s .stands .0 .is))
-        go ws (Pushed x D ks ps) s e = absurd (omega (arith, below, s .stands .0 .is))
+        go ws (Bound x) s d e = absurd (omega (arith, below, s .stands .0 .is))
+        go ws (Whole x) s d e = absurd (omega (arith, below, s .stands .0 .is))
+        go ws (Pushed x D ks ps) s d e = absurd (omega (arith, below, s .stands .0 .is))
 
   -- ---- A PUSHVAR, PUSHIMM or PUSHI
 
-  pub leaf-within : {z : ℕ} {ws : List ℕ} → 11 ≤ getD code z 0 → TreeAt code subject entries work words l offset nst z ws → z + 1 < length code
+  pub leaf-within : {z : ℕ} {ws : List ℕ} → 11 ≤ getD code z 0 → TreeAt code subject entries work words l level offset nst z ws → z + 1 < length code
   leaf-within {z = z} above t = go (t .tree) (t .standing)
     where
       go : (p : Tree one) → Standing code subject entries work words l p (root z) → z + 1 < length code
@@ -205,7 +227,7 @@ module _ {code subject entries work : List ℕ} {words l offset : ℕ} {nst : Li
       go (Pushed e D ks ps) s = omega (arith, s .stands .0 .high, s .short)
 
   module _ {z : ℕ} (op : getD code z 0 ≡ 11) where
-    pub tree-bound : {ws : List ℕ} → TreeAt code subject entries work words l offset nst z ws → BoundAt code l z
+    pub tree-bound : {ws : List ℕ} → TreeAt code subject entries work words l level offset nst z ws → BoundAt code l z
     tree-bound t = go (t .tree) (t .standing)
       where
         go : (p : Tree one) → Standing code subject entries work words l p (root z) → BoundAt code l z
@@ -215,7 +237,7 @@ module _ {code subject entries work : List ℕ} {words l offset : ℕ} {nst : Li
         go (Whole e) s = absurd (omega (arith, op, s .stands .0 .is))
         go (Pushed e D ks ps) s = absurd (omega (arith, op, s .stands .0 .is))
 
-    pub bound-words : (ws : List ℕ) → TreeAt code subject entries work words l offset nst z ws
+    pub bound-words : (ws : List ℕ) → TreeAt code subject entries work words l level offset nst z ws
         → ws ≡ (getD code (z + 1) 0 + getD nst (getD code (z + 1) 0) 0) ∷ 0 ∷ []
     bound-words ws t = go (t .tree) (t .standing) (t .these)
       where

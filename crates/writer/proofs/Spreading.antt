@@ -1,6 +1,6 @@
 -- An entry written node by node, from its first node on, is what its PUSHI writes; and each of its nodes stands where the walk reads it.
 use mathlib.Core.Path.{_≡_, refl, sym, ap, ap₂, _∙_}
-use Prim.Native.Nat.{ℕ, zero, suc, _+_, _-_, _*_, _≤_, _<_}
+use Prim.Native.Nat.{ℕ, zero, suc, _+_, _-_, _*_, _≤_, _<_, max}
 use native.Mathlib.Omega.{arith}
 use mathlib.Core.Bool.{Bool, true, false, _&&_, cond}
 use mathlib.Core.Option.{Option, none}
@@ -105,6 +105,21 @@ total-each g (suc n) (suc k) (w ∷ c ∷ ws) (x ∷ hs) h m j e =
     let y : 2 * suc k + 1 ≡ suc (suc (2 * k + 1)) = omega arith in
     let z : 2 * suc k ≡ suc (suc (2 * k)) = omega arith in
     rw (y, z) (total-each g n k ws hs (omega arith) (omega arith) (omega arith) (on _ (of-and (g w c x) (total _&&_ true g n ws hs) (T-of _ e) .1)))
+
+-- none gives more than the greatest
+pub total-greatest : (g : ℕ → ℕ → ℕ → ℕ) (n k : ℕ) (ws hs : List ℕ) → 2 * n ≤ length ws → n ≤ length hs → k < n
+    → g (getD ws (2 * k) 0) (getD ws (2 * k + 1) 0) (getD hs k 0) ≤ total max 0 g n ws hs
+unfolding total
+total-greatest g zero k ws hs h m j = absurd (omega arith)
+total-greatest g (suc n) k [] hs h m j = absurd (omega arith)
+total-greatest g (suc n) k (w ∷ []) hs h m j = absurd (omega arith)
+total-greatest g (suc n) k (w ∷ c ∷ ws) [] h m j = absurd (omega arith)
+total-greatest g (suc n) zero (w ∷ c ∷ ws) (x ∷ hs) h m j = omega arith
+total-greatest g (suc n) (suc k) (w ∷ c ∷ ws) (x ∷ hs) h m j =
+    let y : 2 * suc k + 1 ≡ suc (suc (2 * k + 1)) = omega arith in
+    let z : 2 * suc k ≡ suc (suc (2 * k)) = omega arith in
+    let i = total-greatest g n k ws hs (omega arith) (omega arith) (omega arith) in
+    rw (y, z) (omega arith)
 
 -- ---- The places of an entry's nodes
 

@@ -8,10 +8,10 @@ use lib.ListN.{length, getD, take, drop}
 use Rattle.documents.specs.Lists.{assoc, pairlists}
 use Rattle.documents.specs.Terms.{Sort, one, many}
 use Rattle.documents.specs.Instructions.{opCELL, opPUSHIMM}
-use Rattle.trees.specs.Trees.{Tree, Pushed, count, orMovedWords, inOrder, wordsOf}
+use Rattle.trees.specs.Trees.{Tree, Pushed, orOne, depthOf, orMovedWords, wordsOf}
 use Rattle.links.specs.Bodies.{keyPlace}
 use Rattle.links.specs.Nodewise.{isFree, seenAt}
-use Rattle.links.specs.Standing.{entryPlace, entryAt, Scene, Safe, Spot, root, last, Stands}
+use Rattle.links.specs.Standing.{entryPlace, entryAt, Scene, Safe, Spot, root, Stands}
 
 -- The setting of the walk: OFFSET and `opened`, that holds OFFSET at each of l open LAMBDAs. A body's words are fewer than those around it, and it stands
 -- under fewer than 64 abstractions of its entry, so OFFSET stays small.
@@ -19,16 +19,23 @@ pub record Ready (code subject entries work result opened : List ℕ) (end offse
   pub scene : Scene code subject entries work
   pub inside : end ≤ length result
   pub lambdas : l ≤ 63
-  pub long : length opened ≡ 64
+  pub long : length opened ≡ 128
   pub low : (i : ℕ) → i < l → getD opened i 0 ≤ offset
   pub small : offset + 64 * words ≤ 1048576
 
--- Of a CELL or ADBMAL: how many terms it takes, how many LAMBDAs are open in these, and the word of its node.
+-- Of a CELL or ADBMAL: how many terms it takes, how many LAMBDAs are open in these, how many around it if so many are open in these, whether it is a
+-- symbol without arguments, and the word of its node.
 unfoldable pub argumentsAt : List ℕ → ℕ → ℕ
 argumentsAt code at = cond (eqb (getD code at 0) opCELL) (getD code (at + 2) 0) 1
 
 unfoldable pub lambdasIn : List ℕ → ℕ → ℕ → ℕ
 lambdasIn code at l = cond (eqb (getD code at 0) opCELL) l (l + 1)
+
+unfoldable pub lambdasAround : List ℕ → ℕ → ℕ → ℕ
+lambdasAround code at l = cond (eqb (getD code at 0) opCELL) l (l - 1)
+
+unfoldable pub isConstant : List ℕ → ℕ → Bool
+isConstant code at = eqb (getD code at 0) opCELL && eqb (getD code (at + 2) 0) 0
 
 unfoldable pub headAt : List ℕ → ℕ → ℕ
 headAt code at = cond (eqb (getD code at 0) opCELL) (65536 + getD code (at + 1) 0) 196608
@@ -47,18 +54,13 @@ module _ (code subject entries work : List ℕ) (words l : ℕ) where
     pub short : hi ≤ length code
     pub few : hi ≤ lo + words
 
-  module _ (offset : ℕ) (nst : List ℕ) where
-    -- the words of n trees, the root of the last given
-    pub record TreesAt (n z : ℕ) (ws : List ℕ) : Type 0 where
-      pub trees : Tree many
-      pub counted : count trees ≡ n
-      pub standing : Standing trees (last z)
-      pub these : ws ≡ inOrder (wordsOf (entryAt subject entries) trees) offset nst
-
-    -- of the tree whose root stands there
+  -- .. below so many levels that the whole is at most 64 deep
+  module _ (level offset : ℕ) (nst : List ℕ) where
+    -- the words of the tree whose root stands there
     pub record TreeAt (z : ℕ) (ws : List ℕ) : Type 0 where
       pub tree : Tree one
       pub standing : Standing tree (root z)
+      pub shallow : level + depthOf (entryAt subject entries) tree ≤ 64
       pub these : ws ≡ wordsOf (entryAt subject entries) tree offset nst
 
     -- of a variable x, free under n abstractions of the entry of a PUSHI
@@ -68,6 +70,7 @@ module _ (code subject entries work : List ℕ) (words l : ℕ) where
       pub ks : List ℕ
       pub bodies : Tree many
       pub standing : Standing (Pushed e D ks bodies) (root z)
+      pub shallow : level + orOne (assoc (pairlists ks (depthOf (entryAt subject entries) bodies)) (x - n)) ≤ 64
       pub these : ws ≡ orMovedWords (assoc (pairlists ks (wordsOf (entryAt subject entries) bodies)) (x - n)) D n x offset nst
 
 -- the entry of a PUSHI, as the part of the subject from its place to its noted end, and where the places of its nodes begin

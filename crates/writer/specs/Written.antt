@@ -20,6 +20,11 @@ pub record Room (Wanted : List ℕ → Type 0) (end : ℕ) : Type 0 where
   pub wanted : Wanted words
   pub fit : length words ≤ end
 
+-- what is noted of the open LAMBDAs and of the nodes above, which stand from 64 on, is as it was
+pub record Same (l level : ℕ) (d e : List ℕ) : Type 0 where
+  pub lambdas : take l e ≡ take l d
+  pub above : take level (drop 64 e) ≡ take level (drop 64 d)
+
 -- NSTACK, newest first, of an array that holds OFFSET at each of l open LAMBDAs
 unfoldable pub nstack : ℕ → ℕ → List ℕ → List ℕ
 nstack off zero opened = []

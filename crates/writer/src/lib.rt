@@ -18,11 +18,19 @@ ghost use mathlib.Core.List.{[], _∷_};
 ghost use Prim.Native.Nat.{_+_, _-_, _≤_, _<_};
 ghost use lib.ListN.{length, getD, take};
 ghost use Rattle.documents.specs.Instructions.{opCELL, opPUSHVAR, opPUSHIMM, opPUSHI};
-ghost use Rattle.writer.specs.Written.{Wrote, Writes, Room, nstack};
-ghost use Rattle.writer.specs.Wanted.{Ready, argumentsAt, lambdasIn, headAt, movesNothing, TreesAt, TreeAt, EntryPart, FreeAt, Met};
+ghost use Rattle.writer.specs.Written.{Wrote, Writes, Room, Same, nstack};
+ghost use Rattle.writer.specs.Wanted.{Ready, argumentsAt, lambdasIn, lambdasAround, isConstant, headAt, movesNothing, TreeAt, EntryPart, FreeAt, Met};
 
-// So many trees, the root of the last given, before a place of the result. Answers where they begin. OFFSET is `offset`, l LAMBDAs are open,
-// `opened` holds OFFSET at each. The trees stand in at most `words` words of the code, fewer in a body than around it: so the walk ends.
+// Where the nodes above begin, in the lent table whose first words hold OFFSET at each open LAMBDA.
+const ABOVE_AT: usize = 64;
+
+// A node above is its place in the code times this, and how many trees are to be written before it.
+const TREES: u32 = 16;
+
+// The tree whose root is given, before a place of the result. Answers where it begins. OFFSET is `offset`, l LAMBDAs are open, `opened` holds OFFSET at
+// each. The last tree that a node takes is written first, the node itself after the first of them; until then it waits in `opened`, where `level`
+// nodes further out wait. So only a body takes a call. The tree stands in at most `words` words of the code, fewer in a body than around it: so the
+// walk ends.
 pub fn write(
     code: &[u32],
     subject: &[u32],
@@ -31,92 +39,60 @@ pub fn write(
     result: &mut [u32],
     opened: &mut [u32],
     root: usize,
-    count: u32,
     end: usize,
     offset: u32,
     l: usize,
+    level: usize,
     words: usize,
 ) -> usize
-    requires { ⌜ Ready (now code) (now subject) (now entries) (now work) (now result) (now opened) end offset l words × Room (TreesAt (now code) (now subject) (now entries) (now work) words l offset (nstack offset l (now opened)) count root) end ⌝ }
-    ensures { λ r. ⌜ Writes (TreesAt (now (code .entry)) (now (subject .entry)) (now (entries .entry)) (now (work .entry)) words l offset (nstack offset l (now (opened .entry))) count root) (now (result .entry)) (now (result .exit)) r end × (take l (now (opened .exit)) ≡ take l (now (opened .entry))) ⌝ }
+    requires { ⌜ Ready (now code) (now subject) (now entries) (now work) (now result) (now opened) end offset l words × Room (TreeAt (now code) (now subject) (now entries) (now work) words l level offset (nstack offset l (now opened)) root) end ⌝ }
+    ensures { λ r. ⌜ Writes (TreeAt (now (code .entry)) (now (subject .entry)) (now (entries .entry)) (now (work .entry)) words l level offset (nstack offset l (now (opened .entry))) root) (now (result .entry)) (now (result .exit)) r end × Same l level (now (opened .entry)) (now (opened .exit)) ⌝ }
 {
-    let mut left = count;
     let mut at = root;
+    let mut left: u32 = 1;
     let mut to = end;
-    while 0 < left {
+    let mut lambdas = l;
+    let mut kept = level;
+    loop {
+        if left == 0 {
+            if kept == level {
+                return to;
+            }
+            kept -= 1;
+            let node = (opened[ABOVE_AT + kept] / TREES) as usize;
+            left = opened[ABOVE_AT + kept] % TREES;
+            at = before(work[node]);
+            to = put(result, to, head(code, node), arguments(code, node));
+            lambdas = outer(code, node, lambdas);
+            continue;
+        }
+        if code[at] < PUSHVAR {
+            opened[ABOVE_AT + kept] = at as u32 * TREES + (left - 1);
+            kept += 1;
+            opened[lambdas] = offset;
+            lambdas = inner(code, at, lambdas);
+            left = arguments(code, at);
+            at = over(work[at]);
+            continue;
+        }
         let here = at;
         at = before(work[here]);
         left -= 1;
-        if code[here] < PUSHVAR {
-            to = write_node(
-                code,
-                subject,
-                entries,
-                work,
-                result,
-                opened,
-                here,
-                to,
-                offset,
-                l,
-                words,
-            );
-        } else {
-            to = write_leaf(
-                code,
-                subject,
-                entries,
-                work,
-                result,
-                opened,
-                here,
-                to,
-                offset,
-                l,
-                words,
-            );
-        }
+        to = write_leaf(
+            code,
+            subject,
+            entries,
+            work,
+            result,
+            opened,
+            here,
+            to,
+            offset,
+            lambdas,
+            kept,
+            words,
+        );
     }
-    to
-}
-
-// A CELL or ADBMAL: what it took, then its own two words. OFFSET is noted for an ADBMAL's LAMBDA; behind those that are open, it is in nobody's way.
-fn write_node(
-    code: &[u32],
-    subject: &[u32],
-    entries: &[u32],
-    work: &[u32],
-    result: &mut [u32],
-    opened: &mut [u32],
-    at: usize,
-    end: usize,
-    offset: u32,
-    l: usize,
-    words: usize,
-) -> usize
-    requires { ⌜ Ready (now code) (now subject) (now entries) (now work) (now result) (now opened) end offset l words × Room (TreeAt (now code) (now subject) (now entries) (now work) words l offset (nstack offset l (now opened)) at) end × (getD (now code) at 0 < opPUSHVAR) ⌝ }
-    ensures { λ r. ⌜ Writes (TreeAt (now (code .entry)) (now (subject .entry)) (now (entries .entry)) (now (work .entry)) words l offset (nstack offset l (now (opened .entry))) at) (now (result .entry)) (now (result .exit)) r end × (take l (now (opened .exit)) ≡ take l (now (opened .entry))) ⌝ }
-{
-    let count = arguments(code, at);
-    if count == 0 {
-        return put(result, end, head(code, at), 0);
-    }
-    opened[l] = offset;
-    let to = write(
-        code,
-        subject,
-        entries,
-        work,
-        result,
-        opened,
-        over(work[at]),
-        count,
-        end,
-        offset,
-        inner(code, at, l),
-        words,
-    );
-    put(result, to, head(code, at), count)
 }
 
 // How many terms a CELL or ADBMAL takes.
@@ -139,6 +115,28 @@ fn inner(code: &[u32], at: usize, l: usize) -> usize
         return l;
     }
     l + 1
+}
+
+// How many LAMBDAs are open around it, if so many are in what it took.
+fn outer(code: &[u32], at: usize, l: usize) -> usize
+    requires { ⌜ (at < length (now code)) × ((getD (now code) at 0 ≡ opCELL → ⊥) → 1 ≤ l) ⌝ }
+    ensures { λ r. ⌜ r ≡ lambdasAround (now (code .entry)) at l ⌝ }
+{
+    if code[at] == CELL {
+        return l;
+    }
+    l - 1
+}
+
+// Whether it is a symbol without arguments.
+fn is_constant(code: &[u32], at: usize) -> bool
+    requires { ⌜ (at < length (now code)) × (getD (now code) at 0 ≡ opCELL → at + 2 < length (now code)) ⌝ }
+    ensures { λ r. ⌜ r ≡ isConstant (now (code .entry)) at ⌝ }
+{
+    if code[at] != CELL {
+        return false;
+    }
+    code[at + 2] == 0
 }
 
 // The word of its node.
@@ -174,10 +172,11 @@ fn write_leaf(
     end: usize,
     offset: u32,
     l: usize,
+    level: usize,
     words: usize,
 ) -> usize
-    requires { ⌜ Ready (now code) (now subject) (now entries) (now work) (now result) (now opened) end offset l words × Room (TreeAt (now code) (now subject) (now entries) (now work) words l offset (nstack offset l (now opened)) at) end × (opPUSHVAR ≤ getD (now code) at 0) ⌝ }
-    ensures { λ r. ⌜ Writes (TreeAt (now (code .entry)) (now (subject .entry)) (now (entries .entry)) (now (work .entry)) words l offset (nstack offset l (now (opened .entry))) at) (now (result .entry)) (now (result .exit)) r end × (take l (now (opened .exit)) ≡ take l (now (opened .entry))) ⌝ }
+    requires { ⌜ Ready (now code) (now subject) (now entries) (now work) (now result) (now opened) end offset l words × Room (TreeAt (now code) (now subject) (now entries) (now work) words l level offset (nstack offset l (now opened)) at) end × (opPUSHVAR ≤ getD (now code) at 0) ⌝ }
+    ensures { λ r. ⌜ Writes (TreeAt (now (code .entry)) (now (subject .entry)) (now (entries .entry)) (now (work .entry)) words l level offset (nstack offset l (now (opened .entry))) at) (now (result .entry)) (now (result .exit)) r end × Same l level (now (opened .entry)) (now (opened .exit)) ⌝ }
 {
     let operand = code[at + 1];
     if code[at] == PUSHVAR {
@@ -201,6 +200,7 @@ fn write_leaf(
         end,
         offset,
         l,
+        level,
         words,
     )
 }
@@ -255,10 +255,11 @@ fn write_entry(
     end: usize,
     offset: u32,
     l: usize,
+    level: usize,
     words: usize,
 ) -> usize
-    requires { ⌜ Ready (now code) (now subject) (now entries) (now work) (now result) (now opened) end offset l words × Room (TreeAt (now code) (now subject) (now entries) (now work) words l offset (nstack offset l (now opened)) push) end × (getD (now code) push 0 ≡ opPUSHI) × EntryPart (now code) push (now part) places (now subject) (now entries) (now work) ⌝ }
-    ensures { λ r. ⌜ Writes (TreeAt (now (code .entry)) (now (subject .entry)) (now (entries .entry)) (now (work .entry)) words l offset (nstack offset l (now (opened .entry))) push) (now (result .entry)) (now (result .exit)) r end × (take l (now (opened .exit)) ≡ take l (now (opened .entry))) ⌝ }
+    requires { ⌜ Ready (now code) (now subject) (now entries) (now work) (now result) (now opened) end offset l words × Room (TreeAt (now code) (now subject) (now entries) (now work) words l level offset (nstack offset l (now opened)) push) end × (getD (now code) push 0 ≡ opPUSHI) × EntryPart (now code) push (now part) places (now subject) (now entries) (now work) ⌝ }
+    ensures { λ r. ⌜ Writes (TreeAt (now (code .entry)) (now (subject .entry)) (now (entries .entry)) (now (work .entry)) words l level offset (nstack offset l (now (opened .entry))) push) (now (result .entry)) (now (result .exit)) r end × Same l level (now (opened .entry)) (now (opened .exit)) ⌝ }
 {
     let root = work[places];
     let mut at = part.len();
@@ -281,6 +282,7 @@ fn write_entry(
                 to,
                 offset,
                 l,
+                level,
                 words,
             );
         } else {
@@ -291,7 +293,7 @@ fn write_entry(
 }
 
 // A variable that is free in an entry, met under so many abstractions of it: its body, run there, or its index moved. Most bodies are one bound
-// variable, which needs no call.
+// variable or one symbol, which need no call.
 fn write_free(
     code: &[u32],
     push: usize,
@@ -305,10 +307,11 @@ fn write_free(
     end: usize,
     offset: u32,
     l: usize,
+    level: usize,
     words: usize,
 ) -> usize
-    requires { ⌜ Ready (now code) (now subject) (now entries) (now work) (now result) (now opened) end offset l words × Room (FreeAt (now code) (now subject) (now entries) (now work) words l offset (nstack offset l (now opened)) push word inside) end × Met (now code) (now work) push word inside ⌝ }
-    ensures { λ r. ⌜ Writes (FreeAt (now (code .entry)) (now (subject .entry)) (now (entries .entry)) (now (work .entry)) words l offset (nstack offset l (now (opened .entry))) push word inside) (now (result .entry)) (now (result .exit)) r end × (take l (now (opened .exit)) ≡ take l (now (opened .entry))) ⌝ }
+    requires { ⌜ Ready (now code) (now subject) (now entries) (now work) (now result) (now opened) end offset l words × Room (FreeAt (now code) (now subject) (now entries) (now work) words l level offset (nstack offset l (now opened)) push word inside) end × Met (now code) (now work) push word inside ⌝ }
+    ensures { λ r. ⌜ Writes (FreeAt (now (code .entry)) (now (subject .entry)) (now (entries .entry)) (now (work .entry)) words l level offset (nstack offset l (now (opened .entry))) push word inside) (now (result .entry)) (now (result .exit)) r end × Same l level (now (opened .entry)) (now (opened .exit)) ⌝ }
 {
     let Found::Key(key) = find(code, push + 4, code[push + 3], word - inside) else {
         return put(result, end, moved(word, code[push + 2] + offset), 0);
@@ -322,6 +325,9 @@ fn write_free(
             0,
         );
     }
+    if is_constant(code, root) {
+        return put(result, end, head(code, root), 0);
+    }
     write(
         code,
         subject,
@@ -330,10 +336,10 @@ fn write_free(
         result,
         opened,
         root,
-        1,
         end,
         offset + inside,
         l,
+        level,
         code[key + 1] as usize,
     )
 }
