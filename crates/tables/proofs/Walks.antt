@@ -149,6 +149,10 @@ module _ {part : List ℕ} {owed at : ℕ} (w : Walking part owed at) (h : 0 < o
     room = w .room;
   }
 
+  -- past the last node that is owed: its arguments are then
+  pub walking-last : owed ≡ 1 → Walking part (getD part (at + 1) 0) (at + 2)
+  walking-last e = let z : owed - 1 + getD part (at + 1) 0 ≡ getD part (at + 1) 0 = omega arith in rw z at walking-on
+
   -- past a leaf, which is whole
   pub walking-leaf : getD part (at + 1) 0 ≡ 0 → Walking part (owed - 1) (at + 2)
   walking-leaf e = let z : owed - 1 + getD part (at + 1) 0 ≡ owed - 1 = omega arith in rw z at walking-on

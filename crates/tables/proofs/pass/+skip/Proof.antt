@@ -1,14 +1,16 @@
 -- `pass::skip` meets its contract. The words passed and those of the arguments still owed are the subterm's; each turn passes one argument, a leaf
--- by itself and any other by a call.
+-- by itself and any other by a call, but the last, of which only the node is passed.
 -- What falls from call to call is the part's length.
-use Prim.Native.Nat.{ℕ, _<_, _≤_}
+use Prim.Native.Nat.{ℕ, _-_, _<_, _≤_}
 use native.Mathlib.Omega.{arith}
-use lib.ListN.{length-drop, length}
+use lib.ListN.{length-drop, length, drop}
+use Rattle.documents.proofs.Nodes.{nodes-positive}
+use Rattle.tables.specs.Parts.{front}
 use borrow.Author.Needs.{needs}
 use borrow.Fn.Kinds.{In}
 use borrow.Fn.PlainCycle.{Measures, is, falls, and}
 use Rattle.tables.proofs.Parts.{begins-less, from-drop}
-use Rattle.tables.proofs.Walks.{Walking, walking-from, walking-inside, walking-leaf, walking-term, walking-ended}
+use Rattle.tables.proofs.Walks.{Walking, walking-from, walking-inside, walking-last, walking-leaf, walking-term, walking-ended}
 use Rattle.tables.proofs.pass.+skip.{statement}
 use Rattle.tables.proofs.pass.+skip.Tie.{close}
 use Rattle.tables.proofs.pass.skip.Reads as skip
@@ -28,7 +30,7 @@ abbrev skip-Inv-loop : skip-lts.InvT-loop
 skip-Inv-loop part left₀ at₀ left at = Walking part left at × (2 ≤ at)
 
 abbrev skip-μ-loop : skip-lts.MeasureT-loop
-skip-μ-loop part left₀ at₀ left at = left
+skip-μ-loop part left₀ at₀ left at = length part - at
 
 pub +skip-spec : {M : Type 1} → statement M
 +skip-spec =
@@ -46,15 +48,18 @@ pub +skip-spec : {M : Type 1} → statement M
     (λ c. search needs)
     (λ c. search needs)
     (λ c. search needs)
+    (λ c. let w = c .before .before .before .loop .inv .0 .walk .within in omega arith)
+    (λ c. (walking-last (c .before .before .before .loop .inv .0) (omega arith) (c .if1 .taken), omega arith))
     (λ c. search needs)
     (λ c. search needs)
-    (λ c. (walking-leaf (c .before .before .before .loop .inv .0) (omega arith) (c .if1 .taken), omega arith))
+    (λ c. let w = c .before .before .before .before .loop .inv .0 .walk .within in omega arith)
+    (λ c. (walking-leaf (c .before .before .before .before .loop .inv .0) (omega arith) (c .if2 .taken), omega arith))
     (λ c. search needs)
     (λ c. search needs)
     (λ c. search needs)
     (λ c. search needs)
-    (λ c κs. let l = c .before .before .before .before .loop in let w = l .inv .0 .walk .within in (rw (from-drop, length-drop) (omega arith), rw from-drop (begins-less 1 (omega arith) (l .inv .0 .walk .begins))))
-    (λ c. let w = walking-term (c .before .before .before .before .before .loop .inv .0) (omega arith) in let e = w .ends in let m = w .room in let r = rw from-drop at (c .skip .ensures) in search needs)
-    (λ c. search needs)
-    (λ c. let r = rw from-drop at (c .skip .ensures) in (rw r (walking-term (c .before .before .before .before .before .loop .inv .0) (omega arith)), omega arith))
+    (λ c κs. let l = c .before .before .before .before .before .loop in let w = l .inv .0 .walk .within in (rw (from-drop, length-drop) (omega arith), rw from-drop (begins-less 1 (omega arith) (l .inv .0 .walk .begins))))
+    (λ c. let w = walking-term (c .before .before .before .before .before .before .loop .inv .0) (omega arith) in let e = w .ends in let m = w .room in let r = rw from-drop at (c .skip .ensures) in search needs)
+    (λ c. let l = c .before .before .before .before .before .before .loop in let w = l .inv .0 .walk .within in let n = nodes-positive (front (drop (l .at) (c .before .before .before .before .before .before .before .before .before .args .part .now))) in let r = rw from-drop at (c .skip .ensures) in omega arith)
+    (λ c. let r = rw from-drop at (c .skip .ensures) in (rw r (walking-term (c .before .before .before .before .before .before .loop .inv .0) (omega arith)), omega arith))
     (λ c. walking-ended (c .before .loop .inv .0) (omega arith))
