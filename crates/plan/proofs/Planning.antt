@@ -11,13 +11,13 @@ use Rattle.documents.specs.Limits.{planLimit, codeLimit, workingWords}
 use Rattle.documents.specs.Calls.{ReadAnswer, readCall, CompileAnswer, compileCall, RunAnswer, runCall, runLine, compileLine, planLine, readLine, planApply, fileSideWords, fileSubjectWords}
 use Rattle.reedbiscuit.specs.declared.ReedReadAnswer.{ReedReadAnswer}
 use Rattle.reedbiscuit.specs.declared.ReedAnswer.{ReedAnswer}
-use Rattle.reedbiscuit.specs.Answers.{readGiven, compileGiven}
+use Rattle.reedbiscuit.specs.Answers.{Reads, Compiles}
 use Rattle.plan.specs.Program.{Planned, afterRun, afterCompile, afterRead, planned, Leaves}
 use Rattle.plan.proofs.Counted.{read-fits, compile-fits, run-fits}
 
 -- ---- After the reader
 
-module _ (bytes left right subject : List ℕ) (a : ReedReadAnswer) (left′ right′ subject′ : List ℕ) (h : readGiven a left′ right′ subject′ ≡ readCall bytes left right subject) where
+module _ (bytes left right subject : List ℕ) (a : ReedReadAnswer) (left′ right′ subject′ : List ℕ) (h : Reads bytes left right subject a left′ right′ subject′) where
   pub read-within : (a .left ≤ length left) × (a .right ≤ length right) × (a .subject ≤ length subject)
   read-within =
       let f = read-fits bytes left right subject in (
@@ -41,7 +41,7 @@ module _ (bytes left right subject : List ℕ) (a : ReedReadAnswer) (left′ rig
 
 -- ---- After compile
 
-module _ (left right code : List ℕ) (a : ReedAnswer) (code′ : List ℕ) (h : compileGiven a code′ ≡ compileCall left right code) where
+module _ (left right code : List ℕ) (a : ReedAnswer) (code′ : List ℕ) (h : Compiles left right code a code′) where
   pub compile-within : a .words ≤ length code
   compile-within = omega (arith, compile-fits left right code, ap (λ (x : CompileAnswer). x .words) h)
 

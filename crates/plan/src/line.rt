@@ -1,5 +1,4 @@
 // The line that plan_apply prints (document 01, 'Bytes and the program'): numbers in decimal, single spaces, a newline.
-ghost use mathlib.Core.Path.{_≡_};
 ghost use mathlib.Core.List.{_∷_};
 ghost use Prim.Native.Nat.{_+_, _*_, _≤_};
 ghost use lib.ListN.{length};

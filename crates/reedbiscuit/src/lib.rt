@@ -5,8 +5,7 @@ use reader::Answer;
 use runner::Ran;
 use watcher::Watched;
 ghost use mathlib.Core.Path.{_≡_};
-ghost use Rattle.documents.specs.Calls.{readCall, compileCall, checkCall, runCall, watchCall};
-ghost use Rattle.reedbiscuit.specs.Answers.{readNumber, readGiven, compileNumber, compileGiven, runNumber, runGiven, watchNumber, watchGiven};
+ghost use Rattle.reedbiscuit.specs.Answers.{readNumber, Reads, compileNumber, Compiles, Checks, runNumber, Runs, watchNumber, Watches};
 
 // 01's number where nothing is refused.
 pub const DONE: u32 = 0;
@@ -45,7 +44,7 @@ pub extern "C" fn reed_read(
     right: &mut [u32],
     subject: &mut [u32],
 ) -> ReedReadAnswer
-    ensures { λ r. ⌜ readGiven r (now (left .exit)) (now (right .exit)) (now (subject .exit)) ≡ readCall (now (file .entry)) (now (left .entry)) (now (right .entry)) (now (subject .entry)) ⌝ }
+    ensures { λ r. ⌜ Reads (now (file .entry)) (now (left .entry)) (now (right .entry)) (now (subject .entry)) r (now (left .exit)) (now (right .exit)) (now (subject .exit)) ⌝ }
 {
     let answer = reader::read(file, left, right, subject);
     let Answer::Words(l, r, s) = answer else {
@@ -77,7 +76,7 @@ fn read_number(answer: Answer) -> u32
 // Document 01's compile: a rule's code at the front of the lent code table.
 #[no_mangle]
 pub extern "C" fn reed_compile(left: &[u32], right: &[u32], code: &mut [u32]) -> ReedAnswer
-    ensures { λ r. ⌜ compileGiven r (now (code .exit)) ≡ compileCall (now (left .entry)) (now (right .entry)) (now (code .entry)) ⌝ }
+    ensures { λ r. ⌜ Compiles (now (left .entry)) (now (right .entry)) (now (code .entry)) r (now (code .exit)) ⌝ }
 {
     let answer = compiler::compile(left, right, code);
     let Compiled::Words(words) = answer else {
@@ -105,7 +104,7 @@ fn compile_number(answer: Compiled) -> u32
 // Document 01's check: whether code passes, whoever compiled it.
 #[no_mangle]
 pub extern "C" fn reed_check(code: &[u32]) -> u32
-    ensures { λ r. ⌜ r ≡ checkCall (now (code .entry)) ⌝ }
+    ensures { λ r. ⌜ Checks (now (code .entry)) r ⌝ }
 {
     let Checked::Refused(refusal) = checker::check(code) else {
         return DONE;
@@ -121,7 +120,7 @@ pub extern "C" fn reed_run(
     working: &mut [u32],
     result: &mut [u32],
 ) -> ReedAnswer
-    ensures { λ r. ⌜ runGiven r (now (working .exit)) (now (result .exit)) ≡ runCall (now (code .entry)) (now (subject .entry)) (now (working .entry)) (now (result .entry)) ⌝ }
+    ensures { λ r. ⌜ Runs (now (code .entry)) (now (subject .entry)) (now (working .entry)) (now (result .entry)) r (now (working .exit)) (now (result .exit)) ⌝ }
 {
     let answer = runner::run(code, subject, working, result);
     let Ran::Words(made) = answer else {
@@ -149,7 +148,7 @@ fn run_number(answer: Ran) -> u32
 // Document 01's watch: the machine's counts after the first i outermost instructions.
 #[no_mangle]
 pub extern "C" fn reed_watch(code: &[u32], subject: &[u32], i: u32) -> ReedWatchAnswer
-    ensures { λ r. ⌜ watchGiven r ≡ watchCall (now (code .entry)) (now (subject .entry)) i ⌝ }
+    ensures { λ r. ⌜ Watches (now (code .entry)) (now (subject .entry)) i r ⌝ }
 {
     let answer = watcher::watch(code, subject, i);
     let Watched::Counts(current, entries, finished, node) = answer else {

@@ -1,38 +1,37 @@
--- Demands 2 and 3, from what the crates below show. A run of a rule's code comes to what the machine does, since compiled code passes; the
+-- Demand 2, from what the crates below show. A run of a rule's code comes to what the machine does, since compiled code passes; the
 -- machine fails, or some valuation makes the left side the subject, and then what is left to decide is the result's limits.
 use mathlib.Core.Path.{_≡_, refl, sym, ap, _∙_}
 use mathlib.Core.Logic.{_⊎_, inl, inr, _↔_}
 use Prim.Native.Nat.{ℕ, _/_, _≤_, _<_, min}
 use native.Mathlib.Omega.{arith}
-use mathlib.Core.Bool.{Bool, true, false, not, cond}
-use mathlib.Core.List.{List, []}
+use mathlib.Core.Bool.{Bool, true, false, not}
+use mathlib.Core.List.{List}
 use lib.Dec.{T, leb}
 use lib.ListN.{length}
 use borrow.Author.Tests.{le-leb, lt-leb, leb-true, leb-false}
 use Rattle.documents.specs.declared.Refusal.the-variants.{MatchFails, ResultTooLarge, ResultTooDeep, ResultIndexTooLarge}
-use Rattle.documents.specs.Limits.{planLimit, depthLimit, workingWords, indexLimit}
+use Rattle.documents.specs.Limits.{planLimit, depthLimit, codeLimit, indexLimit}
 use Rattle.documents.specs.Lists.{every}
 use Rattle.documents.specs.Terms.{Term}
 use Rattle.documents.specs.Tables.{tableOf, nodes, depth, indices}
-use Rattle.documents.specs.Rules.{Val, Valuation, metasubst}
+use Rattle.documents.specs.Rules.{Val, Valuation, metasubst, metas, among}
 use Rattle.documents.specs.Machine.{fails, run}
 use Rattle.documents.specs.Translation.{compile}
-use Rattle.documents.specs.Passing.{passes}
-use Rattle.documents.specs.Numbers.{answered, refused, unless, rule, ruleIn, codeIn, resultFor}
-use Rattle.documents.specs.Calls.{atFront, runAnswer, runs, runCall, RunAnswer, compileCall, checkCall}
-use Rattle.documents.proofs.Lists.{never, on}
+use Rattle.documents.specs.Numbers.{answered, refused, unless, rule, ruleIn, resultFor}
+use Rattle.documents.specs.Calls.{atFront, runAnswer, runCall, RunAnswer, compileCall, checkCall}
+use Rattle.documents.proofs.Lists.{never}
 use Rattle.documents.proofs.Instructions.{programIn-words}
 use Rattle.documents.proofs.Numbers.{Accepted, ruleIn-accepted, subjectIn-held}
 use Rattle.kahrs.proofs.Main.{CrsRule, crs-rule, Yields, theorem-9-metasubst, soundness-metasubst, unique-metasubst}
-use Rattle.safety.proofs.NeverStuck.{passing-finishes}
 use Rattle.compiled.proofs.Passes.{compiled-passes}
-use Rattle.promises.specs.Demands.{codeOf, Given, Turns, DoneOrLimit, TooLarge, TooDeep, IndexTooLarge, Demand2, Demand3}
+use Rattle.compiled.proofs.WordCount.{compiled-fits}
+use Rattle.promises.specs.Promises.{codeOf, Given, Turns, DoneOrLimit, TooLarge, TooDeep, IndexTooLarge, Passed}
+use Rattle.promises.proofs.Passed.{passes-check, run-fails, run-ends}
 
 -- ---- What a run of a rule's code comes to
 
-codeIn-compiled : (left right : List ℕ) (l r : Term) → Accepted left right l r → codeIn (codeOf l r) ≡ answered (compile l r)
-unfolding codeIn
-codeIn-compiled left right l r a = rw (on (passes (codeOf l r)) (compiled-passes left right l r a), programIn-words (compile l r))
+pub code-passes : (left right : List ℕ) (l r : Term) → ruleIn left right ≡ answered (rule l r) → checkCall (codeOf l r) ≡ 0
+code-passes left right l r e = passes-check (codeOf l r) (compiled-passes left right l r (ruleIn-accepted left right l r e))
 
 module _ (left right subject working result : List ℕ) (l r t : Term) (g : Given left right subject working l r t) where
   accepted : Accepted left right l r
@@ -41,17 +40,13 @@ module _ (left right subject working result : List ℕ) (l r t : Term) (g : Give
   crs : CrsRule l r
   crs = crs-rule l r (accepted .crs) (accepted .leftHeld .shallow)
 
-  run-fails : run (compile l r) t ≡ fails → runCall (codeOf l r) subject working result ≡ runAnswer working result (refused MatchFails)
-  unfolding runCall runs
-  run-fails e = rw (le-leb workingWords (length working) (g .room), codeIn-compiled left right l r accepted, g .subjects, e)
-
-  run-yields : (w : Term) → Yields (compile l r) t w → runCall (codeOf l r) subject working result ≡ runAnswer working result (resultFor (length result) w)
-  unfolding runCall runs
-  run-yields w (env, e) = rw (le-leb workingWords (length working) (g .room), codeIn-compiled left right l r accepted, g .subjects, e)
+  -- compiled code is code that passes
+  compiled-passed : Passed (codeOf l r) subject (compile l r) t
+  compiled-passed = record { checks = code-passes left right l r (g .rules); program = programIn-words (compile l r); subjects = g .subjects }
 
   -- the valuation decides all that the call gives
   run-turned : (v : Val) → Turns v l t → runCall (codeOf l r) subject working result ≡ runAnswer working result (resultFor (length result) (metasubst v r))
-  run-turned v (val, e) = run-yields (metasubst v r) (rw e at (theorem-9-metasubst l r crs v val))
+  run-turned v (val, e) = (let y = rw e at (theorem-9-metasubst l r crs v val) in run-ends (codeOf l r) subject (compile l r) t compiled-passed working result (g .room) (metasubst v r) (y .0) (y .1))
 
 -- ---- What the three limits come to
 
@@ -108,12 +103,15 @@ index-test : (q : Bool) → (q ≡ false) ↔ T (not q)
 index-test true = (λ e. never (cc), λ h. absurd h)
 index-test false = (λ e. tt, λ h. refl)
 
--- ---- The demands
+-- ---- The sentences
 
-compileCall-compiles : (left right code : List ℕ) (l r : Term) → ruleIn left right ≡ answered (rule l r) → length (codeOf l r) ≤ length code
+pub code-fits : (left right : List ℕ) (l r : Term) → ruleIn left right ≡ answered (rule l r) → length (codeOf l r) ≤ codeLimit
+code-fits left right l r e = compiled-fits left right l r (ruleIn-accepted left right l r e)
+
+pub compiles : (left right code : List ℕ) (l r : Term) → ruleIn left right ≡ answered (rule l r) → length (codeOf l r) ≤ length code
     → compileCall left right code ≡ record { number = 0; words = length (codeOf l r); code = atFront code (codeOf l r) }
 unfolding compileCall
-compileCall-compiles left right code l r e h = rw (e, le-leb (length (codeOf l r)) (length code) h)
+compiles left right code l r e h = rw (e, le-leb (length (codeOf l r)) (length code) h)
 
 module _ (left right subject working result : List ℕ) (l r t : Term) (g : Given left right subject working l r t) where
   abbrev ran : RunAnswer
@@ -139,7 +137,7 @@ module _ (left right subject working result : List ℕ) (l r t : Term) (g : Give
   no-match e (inr (inr (inl n))) = let k = ap (λ (a : RunAnswer). a .number) e in omega arith
   no-match e (inr (inr (inr n))) = let k = ap (λ (a : RunAnswer). a .number) e in omega arith
 
-  ran-matches : DoneOrLimit (ran .number) ↔ ((v : Val) × Turns v l t)
+  pub ran-matches : DoneOrLimit (ran .number) ↔ ((v : Val) × Turns v l t)
   ran-matches = (λ d. go (soundness-metasubst l r rule′ t (subjectIn-held subject t (g .subjects) .1)) d, λ (v, h). ran-decided v h .either)
     where
       rule′ : CrsRule l r
@@ -147,10 +145,10 @@ module _ (left right subject working result : List ℕ) (l r t : Term) (g : Give
 
       go : (run (compile l r) t ≡ fails) ⊎ ((v : Val) × Valuation v × (metasubst v l ≡ t) × Yields (compile l r) t (metasubst v r)) → DoneOrLimit (ran .number)
           → (v : Val) × Turns v l t
-      go (inl e) d = absurd (no-match (run-fails left right subject working result l r t g e) d)
+      go (inl e) d = absurd (no-match (run-fails (codeOf l r) subject (compile l r) t (compiled-passed left right subject working result l r t g) working result (g .room) e) d)
       go (inr (v, val, e, y)) d = (v, (val, e))
 
-  ran-limits : (v : Val) → Turns v l t
+  pub ran-limits : (v : Val) → Turns v l t
       → ((ran .number ≡ 13) ↔ TooLarge (length result) (metasubst v r))
       × ((ran .number ≡ 14) ↔ ((TooLarge (length result) (metasubst v r) → ⊥) × TooDeep (metasubst v r)))
       × ((ran .number ≡ 15) ↔ ((TooLarge (length result) (metasubst v r) → ⊥) × (TooDeep (metasubst v r) → ⊥) × IndexTooLarge (metasubst v r)))
@@ -169,30 +167,10 @@ module _ (left right subject working result : List ℕ) (l r t : Term) (g : Give
         ),
       )
 
-pub demand-2 : Demand2
-demand-2 = record {
-  compiles = compileCall-compiles;
-  matches = ran-matches;
-  unique = λ left right subject working l r t g v w (a, p) (b, q).
-      unique-metasubst l r (crs left right subject working [] l r t g) v w a b (p ∙ sym q);
-  leaves = λ left right subject working result l r t g v h. ran-decided left right subject working result l r t g v h .wrote;
-  limits = ran-limits;
-}
+  pub ran-leaves : (v : Val) → Turns v l t → ran .number ≡ 0 → (ran .result ≡ atFront result (tableOf (metasubst v r))) × (ran .words ≡ length (tableOf (metasubst v r)))
+  ran-leaves v h = ran-decided v h .wrote
 
-checkCall-passes : (code : List ℕ) → checkCall code ≡ 0 → T (passes code)
-unfolding checkCall
-checkCall-passes code e = go (passes code) e
-  where
-    go : (q : Bool) → _≡_ {A = ℕ} (cond q 0 11) 0 → T q
-    go true e = tt
-    go false e = absurd (omega arith)
-
-passes-checkCall : (code : List ℕ) → T (passes code) → checkCall code ≡ 0
-unfolding checkCall
-passes-checkCall code p = rw (on (passes code) p)
-
-pub demand-3 : Demand3
-demand-3 = record {
-  safe = λ code subject t e s. passing-finishes code (checkCall-passes code e) t;
-  passes = λ left right l r e. passes-checkCall (codeOf l r) (compiled-passes left right l r (ruleIn-accepted left right l r e));
-}
+pub only-one : (left right : List ℕ) (l r t : Term) → ruleIn left right ≡ answered (rule l r) → (v w : Val) → Turns v l t → Turns w l t
+    → (z k : ℕ) → T (among (metas l) (z, k)) → v z k ≡ w z k
+only-one left right l r t e v w (a, p) (b, q) =
+    let i = ruleIn-accepted left right l r e in unique-metasubst l r (crs-rule l r (i .crs) (i .leftHeld .shallow)) v w a b (p ∙ sym q)
