@@ -3,28 +3,23 @@ pub mod line; // numbers in decimal
 
 use crate::line::NUMBER_BYTES;
 use crate::line::put_line;
+use instructions::limit::MOST_WORDS;
+use reader::SIDE_WORDS;
+use reader::SUBJECT_WORDS;
+use reader::WORD_BYTES;
 use reedbiscuit::DONE;
 use reedbiscuit::ReedAnswer;
 use reedbiscuit::reed_compile;
 use reedbiscuit::reed_read;
 use reedbiscuit::reed_run;
+use runner::WORKING_WORDS;
 ghost use mathlib.Core.Path.{_≡_};
 ghost use Rattle.documents.specs.Calls.{readCall, compileCall, planApply};
 ghost use Rattle.plan.specs.Line.{lineOf, Wrote, Counts};
 ghost use Rattle.plan.specs.Program.{told, afterCompile, planned, Leaves};
 
-// The words of the tables: the most that a file and code may have, and what a run asks for.
-const SIDE_WORDS: usize = 1024;
-
-const SUBJECT_WORDS: usize = 8192;
-
-const CODE_WORDS: usize = 4096;
-
-const WORKING_WORDS: usize = 8192;
-
+// The words of the result table that the program lends.
 const RESULT_WORDS: usize = 8192;
-
-const WORD_BYTES: usize = 4;
 
 // The bytes of the longest file: a version, and for each table a count and its words.
 pub const FILE_BYTES: usize = 1 + WORD_BYTES * (3 + 2 * SIDE_WORDS + SUBJECT_WORDS);
@@ -39,7 +34,7 @@ pub fn line_for(file: &[u8], line: &mut [u8; LINE_BYTES]) -> usize
     let mut left = [0u32; SIDE_WORDS];
     let mut right = [0u32; SIDE_WORDS];
     let mut subject = [0u32; SUBJECT_WORDS];
-    let mut code = [0u32; CODE_WORDS];
+    let mut code = [0u32; MOST_WORDS];
     let mut working = [0u32; WORKING_WORDS];
     let mut result = [0u32; RESULT_WORDS];
     let applied = apply(

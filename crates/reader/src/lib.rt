@@ -12,7 +12,7 @@ const VERSION: u8 = 1;
 
 const LEFT_AT: usize = 1;
 
-const WORD_BYTES: usize = 4;
+pub const WORD_BYTES: usize = 4;
 
 // The words of a vector, and of a turn of the loop over vectors.
 const VECTOR_WORDS: usize = 4;
@@ -22,9 +22,9 @@ const BLOCK_WORDS: usize = 8;
 const BYTE: u32 = 256;
 
 // The most words of a side and of a subject.
-const SIDE_WORDS: usize = 1024;
+pub const SIDE_WORDS: usize = 1024;
 
-const SUBJECT_WORDS: usize = 8192;
+pub const SUBJECT_WORDS: usize = 8192;
 
 // The word counts of left, right and subject, or a refusal.
 pub enum Answer {

@@ -22,7 +22,7 @@ ghost use Rattle.documents.specs.Calls.{zeros, runCall};
 ghost use Rattle.runner.specs.Answers.{given, Applied, Begun, Building};
 
 // The words of a working table: those of code and of a subject's nodes, at most.
-const WORKING_WORDS: usize = 8192;
+pub const WORKING_WORDS: usize = 8192;
 
 // Indices reach one further than the highest of them, which may be 65,535.
 const MOST_REACH: u32 = 65536;
