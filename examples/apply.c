@@ -13,8 +13,8 @@
 static uint8_t file[REED_FILE_BYTES + 1];
 
 /*
- * Each table is as long as any file can ask for, so that none is refused for want of room. They are static, for a logger has little stack:
- * 161 KiB with the file. On a logger that gets compiled code, file, sides and compiler are not there.
+ * Each table is as long as any file can ask for, so that nothing is refused for want of room. With the file they take 160 KiB, and are
+ * static, since a logger has little stack. One that is sent compiled code needs neither the file nor the two sides.
  */
 static uint32_t left[REED_FILE_SIDE_WORDS];
 static uint32_t right[REED_FILE_SIDE_WORDS];
