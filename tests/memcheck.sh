@@ -1,7 +1,7 @@
 #!/usr/bin/env bash
 # memcheck.sh [SHARE]: valgrind's memcheck over examples/apply.c, on every rule file, and over the calls of the comparison tests (linked/), one
-# of SHARE seeds, 100 if none is said: no error, no leak. On x86-64 only, where valgrind can run the library, with gcc and valgrind; needs
-# target/staticlib/libreedbiscuit.a (rt staticlib reedbiscuit).
+# of SHARE seeds, 100 if none is said: no error, no leak. On x86-64 only, where valgrind can run the library; elsewhere it is
+# memcheck_vm.sh. Needs gcc, valgrind and target/staticlib/libreedbiscuit.a (rt staticlib reedbiscuit).
 set -euo pipefail
 cd "$(dirname "$0")/.."
 
@@ -27,16 +27,7 @@ no_error() {
     rm "${logs[@]}"
 }
 
-# Silence means something only where a read past a block, and a block that is lost, are told.
-cat >"$made/planted.c" <<'END_OF_C'
-#include <stdlib.h>
-int main(void)
-{
-    volatile char *block = malloc(8);
-    return block[8] & 0;
-}
-END_OF_C
-compile planted "$made/planted.c"
+compile planted tests/planted.c
 status=0
 "${memcheck[@]}" "$made/planted" || status=$?
 if [ $status != $found ] || ! grep -q 'ERROR SUMMARY: 2 errors' "$made"/*.log; then
