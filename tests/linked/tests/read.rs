@@ -1,7 +1,7 @@
 //! `reed_read` and the second implementation's `read` on the same files and lent tables: the same
 //! number and counts, the same words, and guards and file left alone.
 
-use linked::compare::{compare, Kind};
+use linked::compare::{compare, share_of, Kind};
 use linked::numbers::{BAD_FILE, DONE};
 use linked::read::Read;
 use second::limits::{FILE_SIDE_WORDS, FILE_SUBJECT_WORDS, FILE_VERSION, FILE_WORD_BYTES};
@@ -15,7 +15,7 @@ const LIMITS: [usize; 3] = [FILE_SIDE_WORDS, FILE_SIDE_WORDS, FILE_SUBJECT_WORDS
 fn reed_read_does_what_the_second_implementation_does() {
     let tally = compare(&KINDS);
     print!("reed_read: {tally}");
-    assert!(tally.calls() >= 100_000);
+    assert!(tally.calls() >= share_of(100_000));
     // Last, since it ends the test if the reader writes what it must not.
     #[cfg(target_arch = "x86_64")]
     reads_empty_slices();

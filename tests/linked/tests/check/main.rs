@@ -12,7 +12,7 @@ mod parts;
 mod twins;
 
 use linked::check::Check;
-use linked::compare::{compare, Kind};
+use linked::compare::{compare, share_of, Kind};
 #[cfg(target_arch = "x86_64")]
 use linked::engine::linked::check;
 use linked::numbers::{CODE_DOES_NOT_PASS, DONE};
@@ -24,9 +24,10 @@ use second::seed::{damaged_code, edge_code, foreign_code, Rng, EDGES};
 fn reed_check_does_what_the_second_implementation_does() {
     let tally = compare(&KINDS);
     print!("reed_check: {tally}");
-    assert!(tally.calls() >= 1_000_000);
+    assert!(tally.calls() >= share_of(1_000_000));
     for number in [DONE, CODE_DOES_NOT_PASS] {
-        assert!(tally.times(number) >= 100_000, "{number} came {} times", tally.times(number));
+        let times = tally.times(number);
+        assert!(times >= share_of(100_000), "{number} came {times} times");
     }
     // An empty slice's pointer need not point to memory.
     #[cfg(target_arch = "x86_64")]

@@ -28,7 +28,7 @@ mod spoilt;
 mod twins;
 
 use cases::*;
-use linked::compare::{compare, Kind};
+use linked::compare::{compare, share_of, Kind};
 #[cfg(target_arch = "x86_64")]
 use linked::engine::linked::run;
 use linked::numbers::*;
@@ -56,9 +56,10 @@ const NUMBERS: [u32; 11] = [
 fn reed_run_does_what_the_second_implementation_does() {
     let tally = compare(&KINDS);
     print!("reed_run: {tally}");
-    assert!(tally.calls() >= 500_000);
+    assert!(tally.calls() >= share_of(500_000));
     for number in NUMBERS {
-        assert!(tally.times(number) >= 1_000, "{number} came {} times", tally.times(number));
+        let times = tally.times(number);
+        assert!(times >= share_of(1_000), "{number} came {times} times");
     }
     // Last, since it ends the test if the run writes what it must not.
     #[cfg(target_arch = "x86_64")]

@@ -36,7 +36,7 @@ mod twins;
 
 use cases::*;
 use linked::code::instructions;
-use linked::compare::{compare, Kind};
+use linked::compare::{compare, share_of, Kind};
 #[cfg(target_arch = "x86_64")]
 use linked::engine::linked::watch;
 use linked::numbers::*;
@@ -60,9 +60,10 @@ const NUMBERS: [u32; 7] = [
 fn reed_watch_does_what_the_second_implementation_does() {
     let tally = compare(&KINDS);
     print!("reed_watch: {tally}");
-    assert!(tally.calls() >= 500_000);
+    assert!(tally.calls() >= share_of(500_000));
     for number in NUMBERS {
-        assert!(tally.times(number) >= 1_000, "{number} came {} times", tally.times(number));
+        let times = tally.times(number);
+        assert!(times >= share_of(1_000), "{number} came {times} times");
     }
     // An empty slice's pointer need not point to memory.
     #[cfg(target_arch = "x86_64")]
