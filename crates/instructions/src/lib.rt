@@ -4,6 +4,7 @@ ghost use Prim.Native.Nat.{_<_, _≤_};
 ghost use lib.ListN.{length};
 ghost use Rattle.instructions.specs.Places.{fetched};
 
+pub mod body; // the bodies of a PUSHI
 pub mod limit; // how many of each
 
 use documents::Refusal;

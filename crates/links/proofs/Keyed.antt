@@ -14,10 +14,12 @@ use Rattle.documents.specs.Terms.{Term}
 use Rattle.documents.specs.Instructions.{Program, Bodies, keys}
 use Rattle.documents.proofs.Lists.{never}
 use Rattle.instructions.specs.Places.{programAt}
+use Rattle.instructions.specs.Bodies.{bodyEnd, Readable, keyPlace, placeBehind}
+use Rattle.instructions.proofs.Reading.{nothing}
+use Rattle.instructions.proofs.Bodies.{behind-low}
 use Rattle.trees.specs.Trees.{More, count, topOf, grown, nodesOf, depthOf, reachOf}
-use Rattle.links.specs.Bodies.{bodyEnd, Readable, keyPlace, placeBehind}
 use Rattle.links.specs.Sequences.{treeIn, treeAt, Sequenced, Bodied, keysAt, treesAt}
-use Rattle.links.proofs.Ran.{Held, HeldNext, held-next, held-none, nothing}
+use Rattle.links.proofs.Ran.{Held, HeldNext, held-next, held-none}
 
 -- ---- The first of c keys from q on that is y stands at k
 
@@ -53,13 +55,6 @@ key-step {P} {r} code q c y e f g = go (eqb (getD code q 0) y) refl e
 no-keys : {P : Type 0} {k : ℕ} (code : List ℕ) (q y : ℕ) → keyPlace code q 0 y ≡ some k → P
 unfolding keyPlace
 no-keys code q y e = nothing e
-
--- ---- Where bodies end
-
-pub behind-low : (code : List ℕ) (q c : ℕ) → q ≤ placeBehind code q c
-unfolding placeBehind
-behind-low code q zero = omega arith
-behind-low code q (suc c) = let h = behind-low code (bodyEnd code q) c in omega arith
 
 pub key-at : (code : List ℕ) (q c y k : ℕ) → keyPlace code q c y ≡ some k → KeyAt code q c y k
 unfolding placeBehind keysAt treesAt

@@ -11,14 +11,15 @@ use lib.ListN.{length, getD, set, drop}
 use borrow.Author.Tests.{eq-eqb, ne-eqb, eqb-true, eqb-false}
 use Rattle.documents.specs.Terms.{Sort, one, many, Term}
 use Rattle.documents.specs.Instructions.{Program, Instruction, fixedAfter, CELL, ADBMAL, PUSHVAR, PUSHIMM, PUSHI}
+use Rattle.instructions.specs.Places.{programAt}
+use Rattle.instructions.proofs.Bodies.{behind-low}
 use Rattle.trees.specs.Trees.{Tree, Cell, Block, Bound, Whole, Pushed, Leaf, count, taken, left, blocked, topOf, grown, nodesOf, depthOf, reachOf}
 use Rattle.links.specs.Links.{linkOf, beforeIn, overIn, capped}
 use Rattle.links.specs.Standing.{entryAt, Scene, back, Spot, root, last, held, Rooted, Named, Seen, Stands}
-use Rattle.instructions.specs.Places.{programAt}
 use Rattle.links.specs.Sequences.{treeIn, treeAt, keysAt, treesAt}
 use Rattle.links.proofs.Links.{link-before, link-over, link-depth}
 use Rattle.links.proofs.Ran.{Follows, Next, cell-next, lambda-next, adbmal-next, pushvar-next, pushimm-next, pushi-next, follows-done, follows-build}
-use Rattle.links.proofs.Keyed.{held-trees, behind-low, count-trees}
+use Rattle.links.proofs.Keyed.{held-trees, count-trees}
 use Rattle.links.proofs.Stacks.{sizes, reaches, cell-sizes, cell-reaches, blocked-sizes, taken-count, left-length, grown-top, grown-one}
 use Rattle.measurer.specs.Linking.{deepestBack, overLink, plainLink, placeNext}
 use Rattle.measurer.specs.Measuring.{Kept, near, Sequence, Measure, Push, Pushing, pushTree, Walked}

@@ -5,11 +5,11 @@ use native.Mathlib.Omega.{arith}
 use mathlib.Core.List.{List}
 use lib.ListN.{length, getD, set, length-set}
 use borrow.Author.Tests.{eq-eqb, ne-eqb}
+use Rattle.instructions.specs.Bodies.{bodyEnd, Readable, placeBehind}
+use Rattle.instructions.proofs.Bodies.{readable-more}
 use Rattle.trees.specs.Trees.{further}
 use Rattle.links.specs.Links.{linkOf, beforeIn, depthIn, capped}
-use Rattle.links.specs.Bodies.{bodyEnd, Readable, placeBehind}
 use Rattle.links.specs.Standing.{back}
-use Rattle.links.proofs.Bodies.{readable-more}
 use Rattle.measurer.specs.Linking.{deepestBack, overLink, plainLink, placeNext, forgotten}
 
 -- ---- Back over n trees

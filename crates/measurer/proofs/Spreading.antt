@@ -14,10 +14,11 @@ use Rattle.documents.specs.Tables.{nodes}
 use Rattle.documents.proofs.Lists.{never, on, T-of, of-and}
 use Rattle.tables.specs.Parts.{front}
 use Rattle.tables.proofs.Walks.{Walking, walking-from, walking-on, walking-ended}
+use Rattle.instructions.specs.Bodies.{keyPlace, placeBehind}
+use Rattle.instructions.proofs.Bodies.{behind-low}
 use Rattle.trees.specs.Trees.{Pushed, orOne, orMoved, spreadNodes, spreadDepth, spreadReach}
 use Rattle.trees.proofs.Sizes.{depth-positive-of}
 use Rattle.links.specs.Links.{capped}
-use Rattle.links.specs.Bodies.{keyPlace, placeBehind}
 use Rattle.links.specs.Nodewise.{isFree, total, levelsIn, insideOf, nodeNodes, nodeDepth, nodeReach, nodeSeen, seenAt}
 use Rattle.links.specs.Standing.{entryPlace, entryAt, Scene, Seen, held, Stands}
 use Rattle.links.specs.Sequences.{keysAt, treesAt}
@@ -27,7 +28,7 @@ use Rattle.measurer.specs.declared.Span.the-variants as span
 use Rattle.measurer.specs.Measuring.{Kept, near, Memos, pushEnd, nodesFor, depthFor, reachFor, Spreading, Spreads, Free, Meets}
 use Rattle.measurer.proofs.Kept.{kept-none, kept-then, kept-set, set-here, scene-kept}
 use Rattle.measurer.proofs.Memos.{memos-same, memos-stand}
-use Rattle.links.proofs.Keyed.{key-at, behind-low}
+use Rattle.links.proofs.Keyed.{key-at}
 
 capped-one : (o : Option ℕ) → capped (orOne o) ≡ orOne (cappedIn o)
 capped-one none = refl

@@ -13,7 +13,7 @@ use lib.Seq.{length-take-le, getD-set-same, take-suc-set}
 use borrow.Author.Tests.{leb-true, leb-false, le-leb, lt-leb, lt-ltb, le-ltb, ltb-true, ltb-false, eqb-true, eqb-false, eq-eqb, ne-eqb}
 use Rattle.documents.specs.Limits.{planLimit}
 use Rattle.documents.specs.Lists.{isEmpty}
-use Rattle.documents.specs.Terms.{many, Nil, Cons, Term, Terms}
+use Rattle.documents.specs.Terms.{Nil, Cons, Term, Terms}
 use Rattle.documents.specs.Tables.{termsIn, depth}
 use Rattle.documents.specs.Rules.{metas}
 use Rattle.documents.specs.Numbers.{tableIn, subjectIn}

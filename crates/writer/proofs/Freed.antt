@@ -12,9 +12,9 @@ use borrow.Author.Tests.{eq-eqb, leb-true, ltb-true}
 use Rattle.documents.specs.Lists.{assoc, pairlists}
 use Rattle.documents.specs.Terms.{one, many}
 use Rattle.documents.proofs.Lists.{never, on, T-of, of-and}
+use Rattle.instructions.specs.declared.body.Found.the-variants.{Key, Missing}
+use Rattle.instructions.specs.Bodies.{bodyEnd, Readable, keyPlace, foundAt}
 use Rattle.trees.specs.Trees.{Tree, Leaf, More, count, orOne, depthOf, Writer, orMovedWords, wordsOf}
-use Rattle.links.specs.declared.find.Found.the-variants.{Key, Missing}
-use Rattle.links.specs.Bodies.{bodyEnd, Readable, keyPlace, foundAt}
 use Rattle.links.specs.Nodewise.{isFree, seenAt}
 use Rattle.links.specs.Standing.{entryAt, Safe, root, held, Stands}
 use Rattle.writer.specs.Wanted.{TreeAt, FreeAt, Met}

@@ -28,7 +28,7 @@ use Rattle.writer.proofs.+write+write_entry+write_free+write_leaf.Lts-w
 use Rattle.writer.proofs.write_leaf.Reads as write-leaf
 use Rattle.writer.proofs.write_leaf.Kinds as write-leaf-kinds
 use Rattle.writer.proofs.+write+write_entry+write_free+write_leaf.Lts-write_leaf as write-leaf-lts
-use Rattle.links.proofs.find.find.Reads as find-reads
+use Rattle.instructions.proofs.body.find.Reads as find-reads
 use Rattle.links.proofs.link.before.Reads as before-reads
 use Rattle.links.proofs.link.over.Reads as over-reads
 use Rattle.links.proofs.variable.is_free.Reads as is-free-reads
