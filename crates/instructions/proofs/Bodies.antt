@@ -1,4 +1,4 @@
--- The bodies of a PUSHI, one after the other.
+-- The bodies of a PUSHI, one after the other: the first with a key, and the place behind them, which is where bodies that were read end.
 use mathlib.Core.Path.{_≡_, refl, sym, _∙_}
 use Prim.Native.Nat.{ℕ, zero, suc, _+_, _-_, _≤_, _<_}
 use native.Mathlib.Omega.{arith}

@@ -1,4 +1,4 @@
-// The instruction reader (document 01, 'Rules, valuations, translation'): whole instructions only.
+// The instruction reader (document 01, 'Rules, valuations, translation'): whole instructions only, and the bodies of a PUSHI one by one.
 ghost use mathlib.Core.Path.{_≡_};
 ghost use Prim.Native.Nat.{_<_, _≤_};
 ghost use lib.ListN.{length};

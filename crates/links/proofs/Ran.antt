@@ -9,11 +9,11 @@ use lib.Dec.{T, eqb, leb, ltb}
 use lib.ListN.{length, getD}
 use borrow.Author.Tests.{leb-true, leb-false, ltb-true, eqb-true}
 use Rattle.documents.specs.Lists.{need, andThen}
-use Rattle.documents.specs.Instructions.{IS, ISABST, NEXT, CHECK, SET, EQVAR, EQIMM, EQI, CELL, LAMBDA, ADBMAL, PUSHVAR, PUSHIMM, PUSHI, End, _▸_, None, Body, Instruction, Program, Bodies, whole, ReadBodies, wholeBodies, fixedAfter, bodyCount, bodyThen}
+use Rattle.documents.specs.Instructions.{IS, ISABST, NEXT, CHECK, SET, EQVAR, EQIMM, EQI, CELL, LAMBDA, ADBMAL, PUSHVAR, PUSHIMM, PUSHI, End, _▸_, None, Body, Instruction, Program, Bodies, whole, ReadBodies, wholeBodies, fixedAfter, bodyThen}
 use Rattle.documents.proofs.Lists.{case, on, off, of-and}
 use Rattle.instructions.specs.Places.{programAt, bodiesAt, readAt}
 use Rattle.instructions.specs.Bodies.{bodyEnd, placeBehind}
-use Rattle.instructions.proofs.Reading.{nothing, bodies-count, First, program-first, program-done, bodies-done, bodies-short, bodies-step, read-cell, read-lambda, read-adbmal, read-pushvar, read-pushimm}
+use Rattle.instructions.proofs.Reading.{nothing, First, program-first, program-done, bodies-done, bodies-short, bodies-step, read-cell, read-lambda, read-adbmal, read-pushvar, read-pushimm}
 use Rattle.instructions.proofs.Starts.{Starts, fixed-there, starts-plain, starts-push}
 use Rattle.links.specs.Sequences.{isOne, ran}
 
@@ -103,9 +103,6 @@ pub held-none : {t : List ℕ} {q e E n : ℕ} {b : Bodies} → Held t q e E n b
 held-none {t} {q} {e} {E} {n} {b} s p =
     let w : some (wholeBodies None (e - q)) ≡ some (wholeBodies b (s .left)) = sym (bodies-done t q e) ∙ ap (λ (k : ℕ). bodiesAt t q e k) (sym p) ∙ s .here in
     cc
-
-pub held-count : {t : List ℕ} {q e E n : ℕ} {b : Bodies} → Held t q e E n b → bodyCount b ≡ n
-held-count {t} {q} {e} {E} {n} {b} s = bodies-count _ 0 (e - q) n b (s .left) (s .here)
 
 -- ---- Instructions
 

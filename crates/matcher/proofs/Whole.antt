@@ -3,7 +3,7 @@ use mathlib.Core.Path.{_≡_, refl, sym, ap, _∙_}
 use Prim.Native.Nat.{ℕ, zero, suc, _+_, _-_, _<_}
 use native.Mathlib.Omega.{arith}
 use mathlib.Core.Bool.{true, false}
-use mathlib.Core.Option.{some}
+use mathlib.Core.Option.{some, Option·some-injective}
 use mathlib.Core.List.{List, [], _∷_}
 use lib.Dec.{T}
 use lib.ListN.{length, getD, drop, set}
@@ -79,10 +79,7 @@ module _ (code subject entries : List ℕ) (p : passes code ≡ true) (a : subje
 
   pub start-rest : (c : Program) → programIn code ≡ some c → midway-start .rest ≡ c
   unfolding midway-start
-  start-rest c e = same (sym (passing-obeys code (T-of _ p) .1) ∙ e)
-    where
-      same : {c d : Program} → some c ≡ some d → c ≡ d
-      same e = cc
+  start-rest c e = Option·some-injective _ _ (sym (passing-obeys code (T-of _ p) .1) ∙ e)
 
 -- ---- from instruction to instruction
 

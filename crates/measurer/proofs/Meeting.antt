@@ -181,9 +181,6 @@ module _ {code subject entries work : List ℕ} {push c D w inside most : ℕ} (
       pub root-small : z < 4096
       root-small = let h = root-here in let a = body .0 in let b = fr .scene .code-short in omega arith
 
-      pub long₁ : length work₁ ≡ length work
-      long₁ = k₁ .long
-
       module _ (v : ℕ) where
         abbrev work₂ : List ℕ
         work₂ = set (set work₁ k z) (k + 1) v

@@ -58,9 +58,6 @@ module _ {code : List ℕ} {at : ℕ} {subject entries work : List ℕ} {most : 
   abbrev a : Term
   a = entryAt subject entries e
 
-  pub entry-in : getD code (at + 1) 0 < length entries
-  entry-in = pu .entry
-
   pub first-low : entryPlace entries e + 2 ≤ length subject
   first-low = let k = entered (pu .scene) e (pu .entry) in let w = k .within in let n = nodes-positive a in omega arith
 

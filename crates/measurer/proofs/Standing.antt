@@ -22,9 +22,6 @@ module _ (code subject entries places work work′ : List ℕ) (lo hi lo′ hi�
   abbrev Here : {s : Sort} → Tree s → Spot s → Type 0
   Here p s = Stands code subject entries places lo hi work p s
 
-  abbrev There : {s : Sort} → Tree s → Spot s → Type 0
-  There p s = Stands code subject entries places lo′ hi′ work′ p s
-
   rooted-kept : {z op : ℕ} {p : Tree one} → Rooted code subject entries places lo hi work z op p → Rooted code subject entries places lo′ hi′ work′ z op p
   rooted-kept {z} {op} {p} r =
       let e = agree z (r .low) (let h = r .high in omega arith) in

@@ -3,7 +3,7 @@ use mathlib.Core.Path.{_≡_, refl, sym, ap, _∙_, fun-ext}
 use Prim.Native.Nat.{ℕ, zero, suc, _-_, _*_, _≤_, _<_}
 use native.Mathlib.Omega.{arith}
 use mathlib.Core.Bool.{false, _&&_, cond}
-use mathlib.Core.Option.{some}
+use mathlib.Core.Option.{some, Option·some-injective}
 use mathlib.Core.List.{List, [], _∷_}
 use lib.Dec.{T, leb, ltb}
 use lib.ListN.{length, getD, take, drop}
@@ -26,9 +26,10 @@ use Rattle.safety.proofs.NeverStuck.{passing-obeys}
 use Rattle.trees.specs.Trees.{Tree, topOf, grown, entryOf}
 use Rattle.trees.proofs.Made.{AllFit, Told, Made, made}
 use Rattle.links.specs.Standing.{entryPlace, entryAt, Scene, Safe}
-use Rattle.links.specs.Sequences.{treeIn, treeAt, Sequenced}
+use Rattle.links.specs.Sequences.{treeAt, Sequenced}
 use Rattle.links.proofs.Checked.{checked-ran}
 use Rattle.links.proofs.Safe.{checked-safe}
+use Rattle.links.proofs.Keyed.{tree-here}
 use Rattle.matcher.specs.Ready.{Ready}
 use Rattle.measurer.specs.Measuring.{Sequence}
 use Rattle.runner.specs.Answers.{Building}
@@ -58,11 +59,8 @@ later : (code : List ℕ) (at : ℕ) (c rest : Program) (es : List Slot) → pro
 later code zero c rest es p o h t =
     let n : length code - 0 ≡ length code = omega arith in
     let e : programAt code 0 (length code) ≡ programIn code = ap (λ (k : ℕ). programFrom code 0 k) n in
-    let z : c ≡ rest = same (sym p ∙ sym e ∙ h) in
+    let z = Option·some-injective c rest (sym p ∙ sym e ∙ h) in
     absurd (not-built es rest (rw z at o) t)
-  where
-    same : {c d : Program} → some c ≡ some d → c ≡ d
-    same e = cc
 later code (suc at) c rest es p o h t = omega arith
 
 -- ---- Entries
@@ -147,8 +145,7 @@ module _ {code : List ℕ} {at : ℕ} {subject entries work : List ℕ} (b : Bui
 
   -- the result's tree
   tree-is : topOf (grown (readied .rest) []) ≡ treeAt code at (length code)
-  unfolding treeAt
-  tree-is = sym (ap treeIn (readied .here))
+  tree-is = tree-here code at (length code) (readied .here)
 
   pub safe : Safe 0 (treeAt code at (length code))
   safe = rw tree-is at (checked-safe (readied .es) (readied .rest) (readied .checked))

@@ -371,9 +371,6 @@ module _ {subject places : List ℕ} {node here : ℕ} {ws : List ℕ} (s : Stan
   node-opened : Opened (word / 65536) (word % 65536) count (held (drop (2 * node) subject)) (held (drop (2 * node + 2) subject))
   node-opened = opened subject (2 * node) (s .walk .begins) some-owed .1
 
-  pub few-arguments : getD subject (2 * node + 1) 0 ≤ 8
-  few-arguments = node-opened .narrow
-
   next : 2 * (node + 1) ≡ 2 * node + 2
   next = omega arith
 

@@ -3,7 +3,7 @@ use mathlib.Core.Path.{_≡_, refl, sym, _∙_}
 use Prim.Native.Nat.{ℕ, zero, suc, _+_, _-_, _≤_, _<_}
 use native.Mathlib.Omega.{arith}
 use mathlib.Core.Bool.{true, false}
-use mathlib.Core.Option.{Option, none, some}
+use mathlib.Core.Option.{Option, none, some, Option·some-injective}
 use mathlib.Core.List.{List, [], _∷_}
 use lib.Dec.{T, eqb, leb, ltb}
 use lib.ListN.{length, getD, getElem?}
@@ -12,7 +12,7 @@ use Rattle.documents.specs.Limits.{argumentLimit, indexLimit, dShift}
 use Rattle.documents.specs.Lists.{need, andThen}
 use Rattle.documents.specs.Instructions.{IS, ISABST, NEXT, CHECK, SET, EQVAR, EQIMM, EQI, CELL, LAMBDA, ADBMAL, PUSHVAR, PUSHIMM, PUSHI, End, _▸_, Instruction, Program, Bodies, whole, opcode, fixedAfter, bodyCount, keys}
 use Rattle.documents.specs.Machine.{first}
-use Rattle.documents.specs.Passing.{openLimit, pairLimit, nestLimit, Slot, slot, withSlot, covers, allBelow, blocks, oneMore, takeMany, shut, oneTerm, build}
+use Rattle.documents.specs.Passing.{openLimit, pairLimit, nestLimit, Slot, covers, allBelow, blocks, oneMore, takeMany, shut, oneTerm, build}
 use Rattle.documents.proofs.Lists.{never, case, on, off, needed}
 use Rattle.instructions.specs.Places.{programAt, readAt}
 use Rattle.instructions.specs.Bodies.{Readable, placeBehind}
@@ -20,6 +20,7 @@ use Rattle.instructions.proofs.Reading.{First, read-cell, read-lambda, read-adb
 use Rattle.instructions.proofs.Bodies.{Ends, bodies-end, behind-low}
 use Rattle.instructions.proofs.Starts.{Starts, StartsPush, fixed-at, starts-plain, starts-push}
 use Rattle.safety.proofs.Counts.{total}
+use Rattle.safety.proofs.Limits.{slot-there}
 use Rattle.watcher.specs.declared.count.Built.{Built}
 use Rattle.watcher.specs.Counting.{Counted, Grown, Grows, Finishes}
 
@@ -30,11 +31,8 @@ taken-total n [] ks e = never (cc)
 taken-total n (h ∷ hs) ks e =
     let q = needed (leb n h) (some ((h - n + 1) ∷ hs)) ks e in
     let l = leb-true n h (q .0) in
-    let z : (h - n + 1) ∷ hs ≡ ks = some-is (q .1) in
+    let z : (h - n + 1) ∷ hs ≡ ks = Option·some-injective _ _ (q .1) in
     (omega arith, rw (sym z) (omega arith))
-  where
-    some-is : {x y : List ℕ} → some x ≡ some y → x ≡ y
-    some-is e = cc
 
 more-total : (hs ks : List ℕ) → oneMore hs ≡ some ks → total ks ≡ total hs + 1
 more-total [] ks e = never (cc)
@@ -46,15 +44,8 @@ shut-total (h ∷ []) ks e = never (cc)
 shut-total (h ∷ h₀ ∷ hs) ks e =
     let q = needed (eqb h 1) (some ((h₀ + 1) ∷ hs)) ks e in
     let l = eqb-true h 1 (q .0) in
-    let z : (h₀ + 1) ∷ hs ≡ ks = some-is (q .1) in
+    let z : (h₀ + 1) ∷ hs ≡ ks = Option·some-injective _ _ (q .1) in
     rw (sym z) (omega arith)
-  where
-    some-is : {x y : List ℕ} → some x ≡ some y → x ≡ y
-    some-is e = cc
-
-slot-is : (s : Option Slot) (f : ℕ → List ℕ → Option (List ℕ)) (ks : List ℕ) → withSlot s f ≡ some ks → (b : ℕ) × (g : List ℕ) × (f b g ≡ some ks)
-slot-is none f ks e = never (cc)
-slot-is (some (slot b g)) f ks e = (b, g, e)
 
 module _ (es : List Slot) (hs ks : List ℕ) where
   cell-total : (s n : ℕ) → build es false 0 0 (CELL s n) hs ≡ some ks → (n ≤ total hs) × (total ks ≡ total hs - n + 1)
@@ -71,7 +62,7 @@ module _ (es : List Slot) (hs ks : List ℕ) where
 
   pushimm-total : (x : ℕ) → build es false 0 0 (PUSHIMM x) hs ≡ some ks → total ks ≡ total hs + 1
   pushimm-total x e =
-      let q = slot-is (getElem? es x) (λ b g. need (eqb (0 + blocks hs) b) (oneMore hs)) ks e in
+      let q = slot-there (getElem? es x) (λ b g. need (eqb (0 + blocks hs) b) (oneMore hs)) ks e in
       more-total hs ks (needed (eqb (0 + blocks hs) (q .0)) (oneMore hs) ks (q .2) .1)
 
   pushi-total : (x D : ℕ) (a : Bodies) → build es false 0 0 (PUSHI x D a) hs ≡ some ks → total ks ≡ total hs + 1
@@ -79,7 +70,7 @@ module _ (es : List Slot) (hs ks : List ℕ) where
       let asks : ℕ → List ℕ → Option (List ℕ) = λ b g.
       need (eqb (D + b) (0 + blocks hs + dShift)) (need (leb (bodyCount a) pairLimit) (need (allBelow b (keys a)) (need (covers b g (keys a))
       (need (build es true (0 + blocks hs) (0 + blocks hs) a) (oneMore hs))))) in
-      let q = slot-is (getElem? es x) asks ks e in
+      let q = slot-there (getElem? es x) asks ks e in
       let q₁ = needed (eqb (D + q .0) (0 + blocks hs + dShift)) _ ks (q .2) .1 in
       let q₂ = needed (leb (bodyCount a) pairLimit) _ ks q₁ .1 in
       let q₃ = needed (allBelow (q .0) (keys a)) _ ks q₂ .1 in

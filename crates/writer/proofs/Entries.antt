@@ -23,10 +23,10 @@ use Rattle.links.specs.Nodewise.{isFree, total, insideOf, nodeDepth, nodeWords,
 use Rattle.links.specs.Standing.{entryPlace, entryAt, Scene, root}
 use Rattle.links.proofs.Gathered.{gathered, total-is}
 use Rattle.links.proofs.Entered.{entered}
-use Rattle.links.proofs.Spread.{spread-depth}
+use Rattle.links.proofs.Spread.{total-none, spread-depth}
 use Rattle.writer.specs.Wanted.{movesNothing, Standing, TreeAt, EntryPart, FreeAt, Met}
 use Rattle.writer.proofs.Writings.{Splits}
-use Rattle.writer.proofs.Spreading.{spread-is, spread-same, total-none, total-more, total-each, total-greatest, Below, node-below}
+use Rattle.writer.proofs.Spreading.{spread-is, spread-same, total-more, total-each, total-greatest, Below, node-below}
 
 -- where the entry of an instruction at z stands
 pub record NamedAt (code subject entries work : List ℕ) (z : ℕ) : Type 0 where

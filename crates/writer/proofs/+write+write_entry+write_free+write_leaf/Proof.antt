@@ -9,12 +9,13 @@ use lib.ListN.{length, length-set}
 use borrow.Author.Needs.{needs}
 use borrow.Fn.Kinds.{In}
 use borrow.Fn.PlainCycle.{Measures, is, falls, and}
+use Rattle.links.proofs.Variables.{free-low}
 use Rattle.writer.proofs.Moves.{moves-pushed}
 use Rattle.writer.proofs.Writings.{writes-from, room-from, writes-exactly}
 use Rattle.writer.proofs.Opened.{same-none}
 use Rattle.writer.proofs.Rooting.{leaf-within, tree-root, tree-cell, tree-bound}
 use Rattle.writer.proofs.Entries.{named-part, tree-named, tree-pushed, copied-words}
-use Rattle.writer.proofs.Freed.{key-found, key-missing, free-low, free-readable, free-moved, free-falls}
+use Rattle.writer.proofs.Freed.{key-found, key-missing, free-readable, free-moved, free-falls}
 use Rattle.writer.proofs.Walking.{ready-bound, constant-fits, constant-written, bound-fits, bound-written, body-tree, body-ready, Writing, writing-from, writing-ended, writing-at, leaf-room, leaf-below, writing-leaf, node-cell, opened-high, opened-few, writing-opened, closed-kept, closed-within, closed-cell, closed-some, closed-fit, writing-closed, Entering, entry-root, entering-from, entering-ended, entering-ready, entering-two, entering-within, entering-below, entering-met, entering-room, entering-free, entering-fit, entering-kept}
 use Rattle.writer.proofs.write.Reads as write
 use Rattle.writer.proofs.write.Kinds as write-kinds
