@@ -2,17 +2,17 @@
 use mathlib.Core.Path.{_≡_, refl, sym, _∙_}
 use Prim.Native.Nat.{ℕ, zero, suc, _+_, _-_, _≤_, _<_}
 use native.Mathlib.Omega.{arith}
-use mathlib.Core.Bool.{true, false}
+use mathlib.Core.Bool.{false}
 use mathlib.Core.Option.{Option, none, some, Option·some-injective}
 use mathlib.Core.List.{List, [], _∷_}
 use lib.Dec.{T, eqb, leb, ltb}
 use lib.ListN.{length, getD, getElem?}
 use borrow.Author.Tests.{leb-true, eqb-true, eqb-false}
-use Rattle.documents.specs.Limits.{argumentLimit, indexLimit, dShift}
+use Rattle.documents.specs.Limits.{argumentLimit, indexLimit}
 use Rattle.documents.specs.Lists.{need, andThen}
-use Rattle.documents.specs.Instructions.{IS, ISABST, NEXT, CHECK, SET, EQVAR, EQIMM, EQI, CELL, LAMBDA, ADBMAL, PUSHVAR, PUSHIMM, PUSHI, End, _▸_, Instruction, Program, Bodies, whole, opcode, fixedAfter, bodyCount, keys}
+use Rattle.documents.specs.Instructions.{IS, ISABST, NEXT, CHECK, SET, EQVAR, EQIMM, EQI, CELL, LAMBDA, ADBMAL, PUSHVAR, PUSHIMM, PUSHI, End, _▸_, Instruction, Program, Bodies, whole, opcode, fixedAfter}
 use Rattle.documents.specs.Machine.{first}
-use Rattle.documents.specs.Passing.{openLimit, pairLimit, nestLimit, Slot, covers, allBelow, blocks, oneMore, takeMany, shut, oneTerm, build}
+use Rattle.documents.specs.Passing.{openLimit, nestLimit, Slot, blocks, oneMore, takeMany, shut, oneTerm, build}
 use Rattle.documents.proofs.Lists.{never, case, on, off, needed}
 use Rattle.instructions.specs.Places.{programAt, readAt}
 use Rattle.instructions.specs.Bodies.{Readable, placeBehind}
@@ -20,7 +20,7 @@ use Rattle.instructions.proofs.Reading.{First, read-cell, read-lambda, read-adb
 use Rattle.instructions.proofs.Bodies.{Ends, bodies-end, behind-low}
 use Rattle.instructions.proofs.Starts.{Starts, StartsPush, fixed-at, starts-plain, starts-push}
 use Rattle.safety.proofs.Counts.{total}
-use Rattle.safety.proofs.Limits.{slot-there}
+use Rattle.safety.proofs.Asked.{slot-there, pushAsks, push-asked}
 use Rattle.watcher.specs.declared.count.Built.{Built}
 use Rattle.watcher.specs.Counting.{Counted, Grown, Grows, Finishes}
 
@@ -67,15 +67,8 @@ module _ (es : List Slot) (hs ks : List ℕ) where
 
   pushi-total : (x D : ℕ) (a : Bodies) → build es false 0 0 (PUSHI x D a) hs ≡ some ks → total ks ≡ total hs + 1
   pushi-total x D a e =
-      let asks : ℕ → List ℕ → Option (List ℕ) = λ b g.
-      need (eqb (D + b) (0 + blocks hs + dShift)) (need (leb (bodyCount a) pairLimit) (need (allBelow b (keys a)) (need (covers b g (keys a))
-      (need (build es true (0 + blocks hs) (0 + blocks hs) a) (oneMore hs))))) in
-      let q = slot-there (getElem? es x) asks ks e in
-      let q₁ = needed (eqb (D + q .0) (0 + blocks hs + dShift)) _ ks (q .2) .1 in
-      let q₂ = needed (leb (bodyCount a) pairLimit) _ ks q₁ .1 in
-      let q₃ = needed (allBelow (q .0) (keys a)) _ ks q₂ .1 in
-      let q₄ = needed (covers (q .0) (q .1) (keys a)) _ ks q₃ .1 in
-      more-total hs ks (needed (build es true (0 + blocks hs) (0 + blocks hs) a) (oneMore hs) ks q₄ .1)
+      let q = slot-there (getElem? es x) (pushAsks es 0 0 D a hs) ks e in
+      more-total hs ks (push-asked es 0 0 D a hs ks (q .0) (q .1) (q .2) .more)
 
   -- no match instruction builds
   builds-only : (i : Instruction) → build es false 0 0 i hs ≡ some ks → (8 ≤ opcode i) × (opcode i ≤ 13)
