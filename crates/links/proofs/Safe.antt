@@ -16,9 +16,9 @@ use Rattle.documents.specs.Instructions.{Piece, instruction, program, bodies, C
 use Rattle.documents.specs.Passing.{openLimit, nestLimit, Slot, blocks, oneTerm, build}
 use Rattle.documents.proofs.Lists.{never, needed, andThen-is}
 use Rattle.safety.proofs.Asked.{slot-there, push-asked, one-term, body-asked}
-use Rattle.safety.proofs.Building.{counts-are}
+use Rattle.safety.proofs.Building.{level, level-is, counts-are}
 use Rattle.trees.specs.Trees.{Tree, Cell, Block, Bound, Whole, Pushed, Leaf, More, count, taken, left, topOf, grown}
-use Rattle.trees.proofs.Growing.{Blocks, flat, level, level-is, length-left, taken-of-block, left-of-block}
+use Rattle.trees.proofs.Growing.{Blocks, flat, length-left, taken-of-block, left-of-block}
 use Rattle.links.specs.Standing.{Safe}
 
 -- ---- Trees of a block

@@ -30,8 +30,8 @@ use Rattle.safety.proofs.Asked.{pushAsks, push-asked, one-term, body-as
 abbrev pub Blocks : Type 0
 Blocks = List (List Term)
 
--- NSTACK with the blocks B open
-abbrev pub opened : Blocks → List ℕ → List ℕ
+-- NSTACK with the blocks B open, whatever they hold
+abbrev pub opened : {A : Type 0} → List (List A) → List ℕ → List ℕ
 opened [] nst = nst
 opened (us ∷ B) nst = 0 ∷ opened B nst
 
@@ -41,19 +41,19 @@ laid off nst [] st = st
 laid off nst (us ∷ B) st = map (rename (offsetOf off (opened B nst))) us ++ laid off nst B st
 
 -- the LAMBDAs that are open inside of the blocks B, where l are outside of them
-abbrev pub level : Blocks → ℕ → ℕ
+abbrev pub level : {A : Type 0} → List (List A) → ℕ → ℕ
 level [] l = l
 level (us ∷ B) l = suc (level B l)
 
-length-opened : (B : Blocks) (nst : List ℕ) (l : ℕ) → length nst ≡ l → length (opened B nst) ≡ level B l
+pub length-opened : {A : Type 0} (B : List (List A)) (nst : List ℕ) (l : ℕ) → length nst ≡ l → length (opened B nst) ≡ level B l
 length-opened [] nst l e = e
 length-opened (us ∷ B) nst l e = ap suc (length-opened B nst l e)
 
-level-length : (B : Blocks) (l : ℕ) → level B l ≡ l + length B
+level-length : {A : Type 0} (B : List (List A)) (l : ℕ) → level B l ≡ l + length B
 level-length [] l = omega arith
 level-length (us ∷ B) l = let h = level-length B l in omega arith
 
-pub level-is : (l : ℕ) (us : List Term) (B : Blocks) → l + blocks (map length (us ∷ B)) ≡ level B l
+pub level-is : {A : Type 0} (l : ℕ) (us : List A) (B : List (List A)) → l + blocks (map length (us ∷ B)) ≡ level B l
 level-is l us B =
     let h = level-length B l in
     let k : length (map length B) ≡ length B = length-map B length in

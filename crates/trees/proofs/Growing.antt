@@ -9,7 +9,7 @@ use mathlib.Core.Bool.{Bool, true, false, not}
 use mathlib.Core.Option.{Option, some}
 use mathlib.Core.List.{List, [], _∷_, _++_, map}
 use lib.Dec.{T, eqb, leb, ltb}
-use lib.ListN.{length, getElem?, length-map}
+use lib.ListN.{length, getElem?}
 use borrow.Author.Tests.{eqb-true, leb-true, ltb-true}
 use Rattle.documents.specs.Limits.{argumentLimit, indexLimit, dShift}
 use Rattle.documents.specs.Lists.{need}
@@ -24,7 +24,7 @@ use Rattle.documents.proofs.FreeVariables.{AllFree, AllFree-map}
 use Rattle.kahrs.proofs.RightSide.{offsetOf, pushVar-is, place, covered, RunsAll, pushi-is}
 use Rattle.safety.proofs.Entries.{EntriesOk, Named, named, covered-of-covers}
 use Rattle.safety.proofs.Asked.{pushAsks, push-asked, one-term, body-asked}
-use Rattle.safety.proofs.Building.{programs, keyed-programs, counts-are}
+use Rattle.safety.proofs.Building.{opened, level, length-opened, level-is, programs, keyed-programs, counts-are}
 use Rattle.trees.specs.Trees.{Tree, Cell, Block, Bound, Whole, Pushed, Leaf, More, count, taken, left, topOf, grown}
 use Rattle.trees.proofs.Values.{depthAt, instead, select-place, value, len-value, Good}
 use Rattle.trees.proofs.Words.{Quiet, quiet-under}
@@ -38,30 +38,6 @@ Blocks = List (List (Tree one))
 abbrev pub flat : Blocks → List (Tree one)
 flat [] = []
 flat (ps ∷ B) = ps ++ flat B
-
--- NSTACK with the blocks B open
-abbrev pub opened : Blocks → List ℕ → List ℕ
-opened [] nst = nst
-opened (ps ∷ B) nst = 0 ∷ opened B nst
-
--- the LAMBDAs that are open inside of the blocks B, where l are outside of them
-abbrev pub level : Blocks → ℕ → ℕ
-level [] l = l
-level (ps ∷ B) l = suc (level B l)
-
-length-opened : (B : Blocks) (nst : List ℕ) (l : ℕ) → length nst ≡ l → length (opened B nst) ≡ level B l
-length-opened [] nst l e = e
-length-opened (ps ∷ B) nst l e = ap suc (length-opened B nst l e)
-
-level-length : (B : Blocks) (l : ℕ) → level B l ≡ l + length B
-level-length [] l = omega arith
-level-length (ps ∷ B) l = let h = level-length B l in omega arith
-
-pub level-is : (l : ℕ) (ps : List (Tree one)) (B : Blocks) → l + blocks (map length (ps ∷ B)) ≡ level B l
-level-is l ps B =
-    let h = level-length B l in
-    let k : length (map length B) ≡ length B = length-map B length in
-    omega arith
 
 quiet-opened : (inside : Bool) (off : ℕ) (nst : List ℕ) (B : Blocks) → Quiet inside off nst → Quiet inside off (opened B nst)
 quiet-opened inside off nst [] q = q
