@@ -279,8 +279,8 @@ fn spread(
         }
     }
     work[push + 1] = (2 * (places - NODES_AT + node)) as u32;
-    let deep = cap(greater(deepest, highest / LEVEL + 1));
-    Span::Of(node + more, deep, farthest)
+    let all = node + more;
+    Span::Of(all, cap(greater(deepest, highest / LEVEL + 1)), farthest)
 }
 
 // A variable that is free in an entry, under so many abstractions of it. A body is measured where it is first met.
