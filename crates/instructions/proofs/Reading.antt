@@ -19,6 +19,9 @@ use Rattle.documents.proofs.Instructions.{program-pass, bodies-pass}
 use Rattle.instructions.specs.declared.Place.the-variants.{At, Refused}
 use Rattle.instructions.specs.Places.{programAt, bodiesAt, wholeWithin, readAt, placeIf, fetched}
 
+pub nothing : {A P : Type 0} {a : A} → none ≡ some a → P
+nothing e = never (cc)
+
 -- no opcode above 13 reads
 no-plain : (w : ℕ) (ws : List ℕ) → 13 < w → plainIn w ws ≡ none
 unfolding plainIn
@@ -304,20 +307,17 @@ program-first t a e c lo hi h =
     (λ z.
     let k = leb-false (a + 4) e (off _ z) in
     let s : e < a + 1 + fixedAfter (getD t a 0) = rw o (omega arith) in
-    never (nothing (sym (program-short t a e lo hi s) ∙ h))))
+    nothing (sym (program-short t a e lo hi s) ∙ h)))
     (λ y. plain (readAt t a e) (λ i m r. read-opcode t a e i m r) (sym (program-plain t a e lo hi (eqb-false (getD t a 0) 13 (off _ y))) ∙ h))
   where
-    nothing : none ≡ some c → _≡_ {A = ℕ} 0 1
-    nothing e = cc
-
     pushed : (o : Option ReadBodies) → getD t a 0 ≡ 13
         → pushedThen o (λ o m. before (PUSHI (getD t (a + 1) 0) (getD t (a + 2) 0) o) (programAt t (e - m) e)) ≡ some c → First c (getD t a 0)
-    pushed none p q = never (nothing q)
+    pushed none p q = nothing q
     pushed (some (wholeBodies b m)) p q = first-before (PUSHI (getD t (a + 1) 0) (getD t (a + 2) 0) b) (programAt t (e - m) e) c (getD t a 0) (sym p) q
 
     plain : (o : Option Read) → ((i : Instruction) (m : ℕ) → o ≡ some (whole i m) → opcode i ≡ getD t a 0)
         → readThen o (λ i m. before i (programAt t (a + 1 + m) e)) ≡ some c → First c (getD t a 0)
-    plain none k q = never (nothing q)
+    plain none k q = nothing q
     plain (some (whole i m)) k q = first-before i (programAt t (a + 1 + m) e) c (getD t a 0) (k i m refl) q
 
 -- ---- the end of a program

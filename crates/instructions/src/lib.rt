@@ -1,9 +1,10 @@
-// The instruction reader (document 01, 'Rules, valuations, translation'): whole instructions only.
+// The instruction reader (document 01, 'Rules, valuations, translation'): whole instructions only, and the bodies of a PUSHI one by one.
 ghost use mathlib.Core.Path.{_≡_};
 ghost use Prim.Native.Nat.{_<_, _≤_};
 ghost use lib.ListN.{length};
 ghost use Rattle.instructions.specs.Places.{fetched};
 
+pub mod body; // the bodies of a PUSHI
 pub mod limit; // how many of each
 
 use documents::Refusal;

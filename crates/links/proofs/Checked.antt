@@ -2,19 +2,18 @@
 use mathlib.Core.Path.{_≡_, refl, ap, _∙_}
 use Prim.Native.Nat.{ℕ, zero, suc, _+_, _-_, _≤_, _<_}
 use native.Mathlib.Omega.{arith}
-use mathlib.Core.Bool.{Bool, true, false, not, _&&_}
+use mathlib.Core.Bool.{Bool, true, false, not}
 use mathlib.Core.Option.{Option, some}
 use mathlib.Core.List.{List, [], _∷_}
 use lib.Dec.{T, eqb, leb, ltb}
 use lib.ListN.{length, getElem?}
 use borrow.Author.Tests.{le-leb, lt-ltb, leb-true, ltb-true, eqb-true}
-use Rattle.documents.specs.Limits.{argumentLimit, indexLimit, dShift}
+use Rattle.documents.specs.Limits.{argumentLimit, indexLimit}
 use Rattle.documents.specs.Lists.{andThen}
-use Rattle.documents.specs.Instructions.{Piece, instruction, program, bodies, Code, IS, ISABST, NEXT, CHECK, SET, EQVAR, EQIMM, EQI, CELL, LAMBDA, ADBMAL, PUSHVAR, PUSHIMM, PUSHI, End, _▸_, None, Body, Program, Bodies, bodyCount, keys}
-use Rattle.documents.specs.Passing.{openLimit, pairLimit, nestLimit, Slot, withSlot, covers, allBelow, blocks, oneMore, takeMany, oneTerm, build}
-use Rattle.documents.proofs.Lists.{never, on, T-of, of-and, and-of, needed, andThen-is}
-use Rattle.safety.proofs.Limits.{slot-there}
-use Rattle.safety.proofs.Building.{one-term}
+use Rattle.documents.specs.Instructions.{Piece, instruction, program, bodies, Code, IS, ISABST, NEXT, CHECK, SET, EQVAR, EQIMM, EQI, CELL, LAMBDA, ADBMAL, PUSHVAR, PUSHIMM, PUSHI, End, _▸_, None, Body, Program, Bodies}
+use Rattle.documents.specs.Passing.{openLimit, nestLimit, Slot, withSlot, blocks, oneMore, takeMany, oneTerm, build}
+use Rattle.documents.proofs.Lists.{never, on, and-of, needed, andThen-is}
+use Rattle.safety.proofs.Asked.{slot-there, push-asked, one-term, body-asked}
 use Rattle.trees.specs.Trees.{sum}
 use Rattle.links.specs.Sequences.{isOne, ran}
 
@@ -92,15 +91,10 @@ module _ (es : List Slot) (E : ℕ) (all : length es ≡ E) where
   PUSHI-counts n D a each inside l nest hs ks o e =
       let r = slot-there (getElem? es n) _ ks e in
       let k = slot-in es n _ ks e in
-      let b = r .0 in
-      let q₁ = needed (eqb (D + b) (l + blocks hs + dShift)) _ ks (r .2) in
-      let q₂ = needed (leb (bodyCount a) pairLimit) _ ks (q₁ .1) in
-      let q₃ = needed (allBelow b (keys a)) _ ks (q₂ .1) in
-      let q₄ = needed (covers b (r .1) (keys a)) _ ks (q₃ .1) in
-      let q₅ = needed (build es true (l + blocks hs) (nest + blocks hs) a) _ ks (q₄ .1) in
-      let d = eqb-true (D + b) (l + blocks hs + dShift) (q₁ .0) in
-      let y = on (ran E a) (each true (l + blocks hs) (nest + blocks hs) o (T-of _ (q₅ .0))) in
-      counts-as l _ (λ h. some (h + 1)) hs ks (rw (lt-ltb n E (omega arith), le-leb D 127 (omega arith), y)) (more-counts l hs ks o (q₅ .1))
+      let q = push-asked es l nest D a hs ks (r .0) (r .1) (r .2) in
+      let d = q .shift in
+      let y = on (ran E a) (each true (l + blocks hs) (nest + blocks hs) o (q .bodies)) in
+      counts-as l _ (λ h. some (h + 1)) hs ks (rw (lt-ltb n E (omega arith), le-leb D 127 (omega arith), y)) (more-counts l hs ks o (q .more))
 
   -- what the check says of code is what `ran` says
   pub counts-as-checked : {p : Piece} (c : Code p) → Claim p c
@@ -126,9 +120,8 @@ module _ (es : List Slot) (E : ℕ) (all : length es ≡ E) where
       record { counts = ap (λ x. andThen x (ran E c)) (s .counts) ∙ r .counts; opens = r .opens }
   counts-as-checked None = λ inside l nest o t. tt
   counts-as-checked (Body k c a) = λ inside l nest o t.
-      let q = of-and (ltb nest nestLimit && oneTerm (build es true l (nest + 1) c (0 ∷ []))) (build es inside l nest a) t in
-      let p = of-and (ltb nest nestLimit) (oneTerm (build es true l (nest + 1) c (0 ∷ []))) (q .0) in
-      let s = counts-as-checked c true l (nest + 1) (0 ∷ []) (1 ∷ []) (omega arith) (one-term _ (p .1)) in
+      let q = body-asked es inside l nest k c a t in
+      let s = counts-as-checked c true l (nest + 1) (0 ∷ []) (1 ∷ []) (omega arith) (q .0) in
       and-of (isOne (ran E c 0)) (ran E a) (rw (s .counts) tt) (counts-as-checked a inside l nest o (q .1))
 
 -- a checked build part

@@ -8,16 +8,17 @@ use mathlib.Core.Option.{Option, none, some}
 use mathlib.Core.List.{List, [], _∷_}
 use lib.Dec.{eqb}
 use lib.ListN.{length, getD}
-use borrow.Author.Tests.{eqb-true}
 use Rattle.documents.specs.Lists.{assoc, pairlists}
 use Rattle.documents.specs.Terms.{Term}
 use Rattle.documents.specs.Instructions.{Program, Bodies, keys}
 use Rattle.documents.proofs.Lists.{never}
 use Rattle.instructions.specs.Places.{programAt}
+use Rattle.instructions.specs.Bodies.{bodyEnd, Readable, keyPlace, placeBehind}
+use Rattle.instructions.proofs.Reading.{nothing}
+use Rattle.instructions.proofs.Bodies.{behind-low}
 use Rattle.trees.specs.Trees.{More, count, topOf, grown, nodesOf, depthOf, reachOf}
-use Rattle.links.specs.Bodies.{bodyEnd, Readable, keyPlace, placeBehind}
 use Rattle.links.specs.Sequences.{treeIn, treeAt, Sequenced, Bodied, keysAt, treesAt}
-use Rattle.links.proofs.Ran.{Held, HeldNext, held-next, held-none, nothing}
+use Rattle.links.proofs.Ran.{Held, HeldNext, held-next, held-none}
 
 -- ---- The first of c keys from q on that is y stands at k
 
@@ -54,13 +55,6 @@ no-keys : {P : Type 0} {k : ℕ} (code : List ℕ) (q y : ℕ) → keyPlace code
 unfolding keyPlace
 no-keys code q y e = nothing e
 
--- ---- Where bodies end
-
-pub behind-low : (code : List ℕ) (q c : ℕ) → q ≤ placeBehind code q c
-unfolding placeBehind
-behind-low code q zero = omega arith
-behind-low code q (suc c) = let h = behind-low code (bodyEnd code q) c in omega arith
-
 pub key-at : (code : List ℕ) (q c y k : ℕ) → keyPlace code q c y ≡ some k → KeyAt code q c y k
 unfolding placeBehind keysAt treesAt
 key-at code q zero y k e = no-keys code q y e
@@ -83,13 +77,6 @@ key-missing code q (suc c) y e =
     (λ p w.
     let r = key-missing code (bodyEnd code q) c y w in
     record { nodes = λ ent. rw p (r .nodes ent); depth = λ ent. rw p (r .depth ent); reach = λ ent. rw p (r .reach ent) })
-
-pub same-key : (code : List ℕ) (q c y k : ℕ) → keyPlace code q c y ≡ some k → getD code k 0 ≡ y
-same-key code q zero y k e = no-keys code q y e
-same-key code q (suc c) y k e =
-    key-step code q c y e
-    (λ p w. let z : q ≡ k = inside w in ap (λ (i : ℕ). getD code i 0) (sym z) ∙ eqb-true (getD code q 0) y p)
-    (λ p w. same-key code (bodyEnd code q) c y k w)
 
 -- two bodies do not lie over each other
 pub keys-apart : (code : List ℕ) (q c y z k j : ℕ) → keyPlace code q c y ≡ some k → keyPlace code q c z ≡ some j
@@ -119,12 +106,7 @@ pub bodied-readable : (code : List ℕ) (q c E : ℕ) → Bodied code q c E → 
 bodied-readable code q zero E b = b
 bodied-readable code q (suc c) E b = (b .0, bodied-readable code (bodyEnd code q) c E (b .2))
 
--- ---- As many keys and trees as bodies
-
-pub length-keys : (t : List ℕ) (q c : ℕ) → length (keysAt t q c) ≡ c
-unfolding keysAt
-length-keys t q zero = refl
-length-keys t q (suc c) = let h = length-keys t (bodyEnd t q) c in omega arith
+-- ---- As many trees as bodies
 
 pub count-trees : (t : List ℕ) (q c : ℕ) → count (treesAt t q c) ≡ c
 unfolding treesAt
@@ -133,9 +115,9 @@ count-trees t q (suc c) = let h = count-trees t (bodyEnd t q) c in omega arith
 
 -- ---- What was read is what stands at its place
 
-pub tree-here : (t : List ℕ) (a e : ℕ) {c : Program} → programAt t a e ≡ some c → treeAt t a e ≡ topOf (grown c [])
+pub tree-here : (t : List ℕ) (a e : ℕ) {c : Program} → programAt t a e ≡ some c → topOf (grown c []) ≡ treeAt t a e
 unfolding treeAt
-tree-here t a e h = ap treeIn h
+tree-here t a e h = ap treeIn (sym h)
 
 pub held-trees : {t : List ℕ} {q e E n : ℕ} {b : Bodies} → Held t q e E n b → e ≤ length t → (keys b ≡ keysAt t q n) × (grown b ≡ treesAt t q n) × Bodied t q n E
 unfolding keysAt treesAt
@@ -150,6 +132,6 @@ held-trees {t} {q} {e} {E} {n = suc k} {b} s hi =
     let i = r .inside in
     let o = held-trees (r .behind) hi in (
       ap keys (r .is) ∙ ap (λ l. getD t q 0 ∷ l) (o .0),
-      ap (λ (a : Bodies). grown a) (r .is) ∙ ap₂ More (sym (tree-here t (q + 2) (bodyEnd t q) (i .here))) (o .1),
+      ap (λ (a : Bodies). grown a) (r .is) ∙ ap₂ More (tree-here t (q + 2) (bodyEnd t q) (i .here)) (o .1),
       (omega arith, record { program = r .body; here = i .here; runs = i .runs }, o .2),
     )

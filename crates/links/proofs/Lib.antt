@@ -1,6 +1,5 @@
 pub mod Variables
 pub mod Links
-pub mod Bodies
 pub mod Gathered
 pub mod Entered
 pub mod Ran

@@ -9,12 +9,13 @@ use lib.Dec.{T, eqb, leb, ltb}
 use lib.ListN.{length, getD}
 use borrow.Author.Tests.{leb-true, leb-false, ltb-true, eqb-true}
 use Rattle.documents.specs.Lists.{need, andThen}
-use Rattle.documents.specs.Instructions.{IS, ISABST, NEXT, CHECK, SET, EQVAR, EQIMM, EQI, CELL, LAMBDA, ADBMAL, PUSHVAR, PUSHIMM, PUSHI, End, _▸_, None, Body, Instruction, Program, Bodies, Read, whole, ReadBodies, wholeBodies, fixedAfter, bodyCount, before, bodyThen}
-use Rattle.documents.proofs.Lists.{never, case, on, off, of-and, andThen-is}
+use Rattle.documents.specs.Instructions.{IS, ISABST, NEXT, CHECK, SET, EQVAR, EQIMM, EQI, CELL, LAMBDA, ADBMAL, PUSHVAR, PUSHIMM, PUSHI, End, _▸_, None, Body, Instruction, Program, Bodies, whole, ReadBodies, wholeBodies, fixedAfter, bodyThen}
+use Rattle.documents.proofs.Lists.{case, on, off, of-and}
 use Rattle.instructions.specs.Places.{programAt, bodiesAt, readAt}
-use Rattle.instructions.proofs.Reading.{readThen, pushedThen, bodies-count, program-plain, program-push, program-short, First, program-first, program-done, bodies-done, bodies-short, bodies-step, read-cell, read-lambda, read-adbmal, read-pushvar, read-pushimm}
+use Rattle.instructions.specs.Bodies.{bodyEnd, placeBehind}
+use Rattle.instructions.proofs.Reading.{nothing, First, program-first, program-done, bodies-done, bodies-short, bodies-step, read-cell, read-lambda, read-adbmal, read-pushvar, read-pushimm}
+use Rattle.instructions.proofs.Starts.{Starts, fixed-there, starts-plain, starts-push}
 use Rattle.links.specs.Sequences.{isOne, ran}
-use Rattle.links.specs.Bodies.{bodyEnd, Readable, placeBehind}
 
 -- ---- What `ran` says of the parts
 
@@ -68,9 +69,6 @@ pub record Pushes (t : List ℕ) (a e E h : ℕ) (c : Program) : Type 0 where
 
 -- ---- Bodies
 
-pub nothing : {A P : Type 0} {a : A} → none ≡ some a → P
-nothing e = never (cc)
-
 bodies-are : {t : List ℕ} {q e E k : ℕ} {b : Bodies} {m : ℕ} (c : Option Program) (o : Option ReadBodies)
     → programAt t (q + 2) (bodyEnd t q) ≡ c → bodiesAt t (bodyEnd t q) e k ≡ o → bodyEnd t q ≤ e → T (ran E b) → bodyThen (getD t q 0) c o ≡ some (wholeBodies b m)
     → HeldNext t q e E k b
@@ -106,48 +104,6 @@ held-none {t} {q} {e} {E} {n} {b} s p =
     let w : some (wholeBodies None (e - q)) ≡ some (wholeBodies b (s .left)) = sym (bodies-done t q e) ∙ ap (λ (k : ℕ). bodiesAt t q e k) (sym p) ∙ s .here in
     cc
 
-pub held-count : {t : List ℕ} {q e E n : ℕ} {b : Bodies} → Held t q e E n b → bodyCount b ≡ n
-held-count {t} {q} {e} {E} {n} {b} s = bodies-count _ 0 (e - q) n b (s .left) (s .here)
-
-pub held-readable : {t : List ℕ} {q e E n : ℕ} {b : Bodies} → Held t q e E n b → e ≤ length t → Readable t q n
-held-readable {n = zero} s hi = tt
-held-readable {n = suc k} s hi =
-    let r = held-suc s hi in
-    let l = r .within in
-    (omega arith, held-readable (r .behind) hi)
-
--- where they end
-pub record Ends (t : List ℕ) (q e n m : ℕ) : Type 0 where
-  pub low : q ≤ placeBehind t q n
-  pub high : placeBehind t q n ≤ e
-  pub same : e - m ≡ placeBehind t q n
-
-bodies-end : {t : List ℕ} {e : ℕ} (n q : ℕ) (b : Bodies) (m : ℕ) → e ≤ length t → q ≤ e → bodiesAt t q e n ≡ some (wholeBodies b m) → Ends t q e n m
-unfolding placeBehind
-bodies-end {t} {e} zero q b m hi lo w =
-    let z : some (wholeBodies None (e - q)) ≡ some (wholeBodies b m) = sym (bodies-done t q e) ∙ w in
-    let y : e - q ≡ m = cc in
-    record { low = omega arith; high = lo; same = omega arith }
-bodies-end {t} {e} (suc k) q b m hi lo w =
-    case (λ x. Ends t q e (suc k) m) (leb (bodyEnd t q) e)
-    (λ y.
-    let l = leb-true (bodyEnd t q) e (on _ y) in
-    go (programAt t (q + 2) (bodyEnd t q)) (bodiesAt t (bodyEnd t q) e k) (λ a j h. bodies-end k (bodyEnd t q) a j hi l h) (sym (bodies-step t q e k l hi) ∙ w))
-    (λ y. nothing (sym (bodies-short t q e k (leb-false (bodyEnd t q) e (off _ y))) ∙ w))
-  where
-    go : (c : Option Program) (o : Option ReadBodies) → ((a : Bodies) (j : ℕ) → o ≡ some (wholeBodies a j) → Ends t (bodyEnd t q) e k j)
-        → bodyThen (getD t q 0) c o ≡ some (wholeBodies b m) → Ends t q e (suc k) m
-    go none o f w = nothing w
-    go (some c) none f w = nothing w
-    go (some c) (some (wholeBodies a j)) f w =
-        let z : j ≡ m = cc in
-        let r = f a j refl in
-        let x = r .low in
-        record { low = omega arith; high = r .high; same = rw (sym z) (r .same) }
-
-pub held-ends : {t : List ℕ} {q e E n : ℕ} {b : Bodies} (s : Held t q e E n b) → e ≤ length t → Ends t q e n (s .left)
-held-ends {t} {q} {e} {E} {n} {b} s hi = bodies-end n q b (s .left) hi (s .within) (s .here)
-
 -- ---- Instructions
 
 module _ {t : List ℕ} {a e E h : ℕ} {c : Program} (f : Follows t a e E h c) where
@@ -182,85 +138,57 @@ module _ {t : List ℕ} {a e E h : ℕ} {c : Program} (f : Follows t a e E h c) 
 
     -- its words stand there
     pub follows-within : (k : ℕ) → fixedAfter (getD t a 0) ≡ k → a + 1 + k ≤ e
-    follows-within k p =
-        case (λ x. a + 1 + k ≤ e) (leb (a + 1 + k) e)
-        (λ y. leb-true (a + 1 + k) e (on _ y))
-        (λ y. let l = leb-false (a + 1 + k) e (off _ y) in nothing (sym (program-short t a e lo hi (omega arith)) ∙ f .here))
+    follows-within k p = rw p at (fixed-there t (f .here) lo hi)
 
-    plain : (i : Instruction) (m b : ℕ) → (getD t a 0 ≡ 13 → ⊥) → a + 1 + m ≡ b → readAt t a e ≡ some (whole i m) → (d : Program) × (c ≡ i ▸ d) × (programAt t b e ≡ some d)
-    plain i m b o p r =
-        let w : before i (programAt t b e) ≡ some c =
-        ap (λ (k : ℕ). before i (programAt t k e)) (sym p) ∙ sym (ap (λ (x : Option Read). readThen x (λ i m. before i (programAt t (a + 1 + m) e))) r)
-        ∙ sym (program-plain t a e lo hi o) ∙ f .here
-        in
-        let q = andThen-is (programAt t b e) _ c w in
-        let v = q .2 in
-        (q .0, cc, q .1)
+    -- the next place, with k trees made
+    next : {i : Instruction} {b : ℕ} (s : Starts t e c i b) (k : ℕ) → T (isOne (ran E (s .rest) k)) → Next t e E c i b k
+    next s k r = record { rest = s .rest; is = s .is; within = s .within; behind = record { here = s .behind; runs = r } }
+
+    plain : (i : Instruction) (m b : ℕ) → (getD t a 0 ≡ 13 → ⊥) → readAt t a e ≡ some (whole i m) → a + 1 + m ≡ b → Starts t e c i b
+    plain = starts-plain t (f .here) lo hi
 
     pub cell-next : getD t a 0 ≡ 8 → (getD t (a + 2) 0 ≤ h) × Next t e E c (CELL (getD t (a + 1) 0) (getD t (a + 2) 0)) (a + 3) (h - getD t (a + 2) 0 + 1)
     cell-next o =
-        let l = follows-within 2 (rw o) in
-        let q = plain (CELL (getD t (a + 1) 0) (getD t (a + 2) 0)) 2 (a + 3) (λ p. omega arith) (omega arith) (read-cell t a e o refl l) in
-        let g : T (isOne (andThen (need (leb (getD t (a + 2) 0) h) (some (h - getD t (a + 2) 0 + 1))) (ran E (q .0)))) = rw (q .1) at (f .runs) in
-        let r = asked (leb (getD t (a + 2) 0) h) (h - getD t (a + 2) 0 + 1) (ran E (q .0)) g in (
-          leb-true (getD t (a + 2) 0) h (on _ (r .0)),
-          record { rest = q .0; is = q .1; within = omega arith; behind = record { here = q .2; runs = r .1 } },
-        )
+        let s = plain _ 2 (a + 3) (λ p. omega arith) (read-cell t a e o refl (follows-within 2 (rw o))) (omega arith) in
+        let g : T (isOne (andThen (need (leb (getD t (a + 2) 0) h) (some (h - getD t (a + 2) 0 + 1))) (ran E (s .rest)))) = rw (s .is) at (f .runs) in
+        let r = asked (leb (getD t (a + 2) 0) h) (h - getD t (a + 2) 0 + 1) (ran E (s .rest)) g in
+        (leb-true (getD t (a + 2) 0) h (on _ (r .0)), next s _ (r .1))
 
     pub lambda-next : getD t a 0 ≡ 9 → Next t e E c LAMBDA (a + 1) h
     lambda-next o =
-        let l = follows-within 0 (rw o) in
-        let q = plain LAMBDA 0 (a + 1) (λ p. omega arith) (omega arith) (read-lambda t a e o refl l) in
-        record { rest = q .0; is = q .1; within = omega arith; behind = record { here = q .2; runs = rw (q .1) at (f .runs) } }
+        let s = plain _ 0 (a + 1) (λ p. omega arith) (read-lambda t a e o refl (follows-within 0 (rw o))) (omega arith) in
+        next s h (rw (s .is) at (f .runs))
 
     pub adbmal-next : getD t a 0 ≡ 10 → (1 ≤ h) × Next t e E c ADBMAL (a + 1) h
     adbmal-next o =
-        let l = follows-within 0 (rw o) in
-        let q = plain ADBMAL 0 (a + 1) (λ p. omega arith) (omega arith) (read-adbmal t a e o refl l) in
-        let g : T (isOne (andThen (need (leb 1 h) (some h)) (ran E (q .0)))) = rw (q .1) at (f .runs) in
-        let r = asked (leb 1 h) h (ran E (q .0)) g in
-        (leb-true 1 h (on _ (r .0)), record { rest = q .0; is = q .1; within = omega arith; behind = record { here = q .2; runs = r .1 } })
+        let s = plain _ 0 (a + 1) (λ p. omega arith) (read-adbmal t a e o refl (follows-within 0 (rw o))) (omega arith) in
+        let g : T (isOne (andThen (need (leb 1 h) (some h)) (ran E (s .rest)))) = rw (s .is) at (f .runs) in
+        let r = asked (leb 1 h) h (ran E (s .rest)) g in
+        (leb-true 1 h (on _ (r .0)), next s h (r .1))
 
     pub pushvar-next : getD t a 0 ≡ 11 → Next t e E c (PUSHVAR (getD t (a + 1) 0)) (a + 2) (h + 1)
     pushvar-next o =
-        let l = follows-within 1 (rw o) in
-        let q = plain (PUSHVAR (getD t (a + 1) 0)) 1 (a + 2) (λ p. omega arith) (omega arith) (read-pushvar t a e o refl l) in
-        record { rest = q .0; is = q .1; within = omega arith; behind = record { here = q .2; runs = rw (q .1) at (f .runs) } }
+        let s = plain _ 1 (a + 2) (λ p. omega arith) (read-pushvar t a e o refl (follows-within 1 (rw o))) (omega arith) in
+        next s (h + 1) (rw (s .is) at (f .runs))
 
     pub pushimm-next : getD t a 0 ≡ 12 → (getD t (a + 1) 0 < E) × Next t e E c (PUSHIMM (getD t (a + 1) 0)) (a + 2) (h + 1)
     pushimm-next o =
-        let l = follows-within 1 (rw o) in
-        let q = plain (PUSHIMM (getD t (a + 1) 0)) 1 (a + 2) (λ p. omega arith) (omega arith) (read-pushimm t a e o refl l) in
-        let g : T (isOne (andThen (need (ltb (getD t (a + 1) 0) E) (some (h + 1))) (ran E (q .0)))) = rw (q .1) at (f .runs) in
-        let r = asked (ltb (getD t (a + 1) 0) E) (h + 1) (ran E (q .0)) g in
-        (ltb-true (getD t (a + 1) 0) E (on _ (r .0)), record { rest = q .0; is = q .1; within = omega arith; behind = record { here = q .2; runs = r .1 } })
+        let s = plain _ 1 (a + 2) (λ p. omega arith) (read-pushimm t a e o refl (follows-within 1 (rw o))) (omega arith) in
+        let g : T (isOne (andThen (need (ltb (getD t (a + 1) 0) E) (some (h + 1))) (ran E (s .rest)))) = rw (s .is) at (f .runs) in
+        let r = asked (ltb (getD t (a + 1) 0) E) (h + 1) (ran E (s .rest)) g in
+        (ltb-true (getD t (a + 1) 0) E (on _ (r .0)), next s (h + 1) (r .1))
 
     pub pushi-next : getD t a 0 ≡ 13 → Pushes t a e E h c
-    pushi-next o = go (bodiesAt t (a + 4) e (getD t (a + 3) 0)) refl (sym (program-push t a e lo hi words-there o) ∙ f .here)
-      where
-        words-there : a + 4 ≤ e
-        words-there = let l = follows-within 3 (rw o) in omega arith
-
-        go : (x : Option ReadBodies) → bodiesAt t (a + 4) e (getD t (a + 3) 0) ≡ x
-            → pushedThen x (λ b m. before (PUSHI (getD t (a + 1) 0) (getD t (a + 2) 0) b) (programAt t (e - m) e)) ≡ some c → Pushes t a e E h c
-        go none p w = nothing w
-        go (some (wholeBodies b m)) p w =
-            let q = andThen-is (programAt t (e - m) e) _ c w in
-            let v = q .2 in
-            let z : c ≡ PUSHI (getD t (a + 1) 0) (getD t (a + 2) 0) b ▸ q .0 = cc in
-            let g : T (isOne (andThen (need (ltb (getD t (a + 1) 0) E) (need (leb (getD t (a + 2) 0) 127) (need (ran E b) (some (h + 1))))) (ran E (q .0)))) = rw z at (f .runs) in
-            let r = asked-three (ltb (getD t (a + 1) 0) E) (leb (getD t (a + 2) 0) 127) (ran E b) (h + 1) (ran E (q .0)) g in
-            let s = bodies-end (getD t (a + 3) 0) (a + 4) b m hi words-there p in
-            record {
-              bodies = b;
-              entry = ltb-true (getD t (a + 1) 0) E (on _ (r .0));
-              low = leb-true (getD t (a + 2) 0) 127 (on _ (r .1));
-              words = words-there;
-              held = record { left = m; within = words-there; here = p; runs = r .2 };
-              next = record {
-                rest = q .0;
-                is = z;
-                within = s .high;
-                behind = record { here = ap (λ (k : ℕ). programAt t k e) (sym (s .same)) ∙ q .1; runs = r .3 };
-              };
-            }
+    pushi-next o =
+        let p = starts-push t (f .here) lo hi o in
+        let s = p .starts in
+        let g : T (isOne (andThen (need (ltb (getD t (a + 1) 0) E) (need (leb (getD t (a + 2) 0) 127) (need (ran E (p .bodies)) (some (h + 1))))) (ran E (s .rest)))) = rw (s .is) at (f .runs) in
+        let r = asked-three (ltb (getD t (a + 1) 0) E) (leb (getD t (a + 2) 0) 127) (ran E (p .bodies)) (h + 1) (ran E (s .rest)) g in
+        record {
+          bodies = p .bodies;
+          entry = ltb-true (getD t (a + 1) 0) E (on _ (r .0));
+          low = leb-true (getD t (a + 2) 0) 127 (on _ (r .1));
+          words = p .words;
+          held = record { left = p .left; within = p .words; here = p .here; runs = r .2 };
+          next = next s (h + 1) (r .3);
+        }

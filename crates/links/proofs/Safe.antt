@@ -4,21 +4,21 @@ use mathlib.Core.Path.{_≡_, refl, ap, ap₂, _∙_}
 use Prim.Native.Nat.{ℕ, zero, suc, _+_, _-_, _≤_, _<_}
 use native.Mathlib.Nat.{le-of-suc-le-suc, not-suc-le-zero}
 use native.Mathlib.Omega.{arith}
-use mathlib.Core.Bool.{Bool, true, false, not, _&&_}
+use mathlib.Core.Bool.{Bool, true, false, not}
 use mathlib.Core.Option.{Option, some}
 use mathlib.Core.List.{List, [], _∷_, _++_, map}
 use lib.Dec.{T, eqb, leb, ltb}
 use lib.ListN.{length, getElem?}
 use borrow.Author.Tests.{eqb-true, leb-true, ltb-true}
-use Rattle.documents.specs.Limits.{argumentLimit, indexLimit, dShift}
+use Rattle.documents.specs.Limits.{argumentLimit, indexLimit}
 use Rattle.documents.specs.Terms.{one, many}
-use Rattle.documents.specs.Instructions.{Piece, instruction, program, bodies, Code, IS, ISABST, NEXT, CHECK, SET, EQVAR, EQIMM, EQI, CELL, LAMBDA, ADBMAL, PUSHVAR, PUSHIMM, PUSHI, End, _▸_, None, Body, Instruction, Program, Bodies, bodyCount, keys}
-use Rattle.documents.specs.Passing.{openLimit, pairLimit, nestLimit, Slot, covers, allBelow, blocks, oneTerm, build}
-use Rattle.documents.proofs.Lists.{never, T-of, of-and, needed, andThen-is}
-use Rattle.safety.proofs.Limits.{slot-there}
-use Rattle.safety.proofs.Building.{counts-are, one-term}
+use Rattle.documents.specs.Instructions.{Piece, instruction, program, bodies, Code, IS, ISABST, NEXT, CHECK, SET, EQVAR, EQIMM, EQI, CELL, LAMBDA, ADBMAL, PUSHVAR, PUSHIMM, PUSHI, End, _▸_, None, Body, Instruction, Program, Bodies, keys}
+use Rattle.documents.specs.Passing.{openLimit, nestLimit, Slot, blocks, oneTerm, build}
+use Rattle.documents.proofs.Lists.{never, needed, andThen-is}
+use Rattle.safety.proofs.Asked.{slot-there, push-asked, one-term, body-asked}
+use Rattle.safety.proofs.Building.{level, level-is, counts-are}
 use Rattle.trees.specs.Trees.{Tree, Cell, Block, Bound, Whole, Pushed, Leaf, More, count, taken, left, topOf, grown}
-use Rattle.trees.proofs.Growing.{Blocks, flat, level, level-is, length-left, taken-of-block, left-of-block}
+use Rattle.trees.proofs.Growing.{Blocks, flat, length-left, taken-of-block, left-of-block}
 use Rattle.links.specs.Standing.{Safe}
 
 -- ---- Trees of a block
@@ -132,18 +132,13 @@ module _ (es : List Slot) where
   PUSHI-safe n D a each inside l nest ps B hs e f =
       let m = map length (ps ∷ B) in
       let r = slot-there (getElem? es n) _ hs e in
-      let b = r .0 in
-      let q₁ = needed (eqb (D + b) (l + blocks m + dShift)) _ hs (r .2) in
-      let q₂ = needed (leb (bodyCount a) pairLimit) _ hs (q₁ .1) in
-      let q₃ = needed (allBelow b (keys a)) _ hs (q₂ .1) in
-      let q₄ = needed (covers b (r .1) (keys a)) _ hs (q₃ .1) in
-      let q₅ = needed (build es true (l + blocks m) (nest + blocks m) a) _ hs (q₄ .1) in
-      let t : T (build es true (level B l) (nest + blocks m) a) = rw (level-is l ps B) at (T-of _ (q₅ .0)) in
+      let q = push-asked es l nest D a m hs (r .0) (r .1) (r .2) in
+      let t : T (build es true (level B l) (nest + blocks m) a) = rw (level-is l ps B) at (q .bodies) in
       let s = each true (level B l) (nest + blocks m) (f .0) t in
       record {
         top = Pushed n D (keys a) (grown a) ∷ ps;
         around = B;
-        counted = counts-are (length ps + 1) _ _ hs (q₅ .1) (omega arith);
+        counted = counts-are (length ps + 1) _ _ hs (q .more) (omega arith);
         safe = (f .0, ((s .arity, s .safe), f .1), f .2);
         grows = refl;
       }
@@ -176,9 +171,8 @@ module _ (es : List Slot) where
       safe-then i c l ps B (q .0) hs s (safe-as-checked c inside l nest (s .top) (s .around) hs (rw (s .counted) at (q .2)) (s .safe))
   safe-as-checked None = λ inside l nest o t. record { arity = refl; safe = tt }
   safe-as-checked (Body k c a) = λ inside l nest o t.
-      let q = of-and (ltb nest nestLimit && oneTerm (build es true l (nest + 1) c (0 ∷ []))) (build es inside l nest a) t in
-      let p = of-and (ltb nest nestLimit) (oneTerm (build es true l (nest + 1) c (0 ∷ []))) (q .0) in
-      let m = one-safe l c (safe-as-checked c true l (nest + 1) [] [] (1 ∷ []) (one-term _ (p .1)) (o, tt, tt)) in
+      let q = body-asked es inside l nest k c a t in
+      let m = one-safe l c (safe-as-checked c true l (nest + 1) [] [] (1 ∷ []) (q .0) (o, tt, tt)) in
       let r = safe-as-checked a inside l nest o (q .1) in
       record { arity = ap suc (r .arity); safe = (m, r .safe) }
 

@@ -7,11 +7,11 @@ use mathlib.Core.Option.{Option, none, some}
 use mathlib.Core.List.{List, [], _∷_, _++_}
 use lib.Dec.{leb, ltb}
 use lib.ListN.{length, getD, drop, length-append, length-drop, List·getD-append}
-use lib.Seq.{getD-append-add, getD-drop}
+use lib.Seq.{getD-append-add}
 use borrow.Author.Tests.{ltb-true, ltb-false, lt-ltb, le-leb, lt-leb}
 use Rattle.documents.specs.Terms.{Sort, Tm, Var, Sym, Meta, Abst, Nil, Cons}
 use Rattle.documents.specs.Tables.{nodeWord, tableOf, Fits, nodes, depth}
-use Rattle.documents.proofs.Lists.{never, at-cons}
+use Rattle.documents.proofs.Lists.{at-cons}
 use Rattle.documents.proofs.Nodes.{nodes-positive}
 use Rattle.trees.specs.Trees.{orOne, orMoved, spreadNodes, spreadDepth, spreadReach}
 use Rattle.survey.specs.Places.{place, placesOf}
@@ -226,14 +226,6 @@ module _ {subject entries places : List ℕ} {e : ℕ} (en : Entered subject ent
       let m = among (en .level) (en .above) a j h in
       rw (z, en .root) (record { low = omega arith; high = omega arith; inside = omega arith; levels = omega arith })
 
-  -- the same by the place in the whole table
-  pub place-at : (i : ℕ) → entryPlace entries e / 2 ≤ i → i < entryPlace entries e / 2 + nodes (entryAt subject entries e)
-      → PlaceOf (getD places (entryPlace entries e / 2) 0) (getD places i 0)
-  place-at i h l =
-      let z : entryPlace entries e / 2 + (i - entryPlace entries e / 2) ≡ i = omega arith in
-      let g = getD-drop (entryPlace entries e / 2) places (i - entryPlace entries e / 2) 0 ∙ ap (λ j. getD places j 0) z in
-      rw g at (place-of (i - entryPlace entries e / 2) (omega arith))
-
   -- the table holds them all
   pub places-within : entryPlace entries e / 2 + nodes (entryAt subject entries e) ≤ length places
   places-within =
@@ -273,14 +265,11 @@ abbrev pub cappedIn : Option ℕ → Option ℕ
 cappedIn none = none
 cappedIn (some d) = some (capped d)
 
-capped-of-max : (a b : ℕ) → capped (max a b) ≡ max (capped a) (capped b)
-capped-of-max a b = omega arith
+capped-max : (a b : ℕ) → capped (max a b) ≡ max (capped a) (capped b)
+capped-max a b = omega arith
 
-capped-max : (a b c d : ℕ) → capped a ≡ capped c → capped b ≡ capped d → capped (max a b) ≡ capped (max c d)
-capped-max a b c d p q = capped-of-max a b ∙ ap (λ x. max x (capped b)) p ∙ ap (λ x. max (capped c) x) q ∙ sym (capped-of-max c d)
-
-capped-further : (l a b : ℕ) → capped a ≡ capped b → capped (l + a) ≡ capped (l + b)
-capped-further l a b p = omega arith
+pub capped-both : (a b c d : ℕ) → capped a ≡ capped c → capped b ≡ capped d → capped (max a b) ≡ capped (max c d)
+capped-both a b c d p q = capped-max a b ∙ ap (λ x. max x (capped b)) p ∙ ap (λ x. max (capped c) x) q ∙ sym (capped-max c d)
 
 capped-one : (o : Option ℕ) → capped (orOne o) ≡ capped (orOne (cappedIn o))
 capped-one none = refl
@@ -290,10 +279,6 @@ capped-if : (q : Bool) (o : Option ℕ) → capped (cond q 1 (orOne o)) ≡ capp
 capped-if true o = refl
 capped-if false o = capped-one o
 
-capped-else : (q : Bool) (o : Option ℕ) → capped (cond q (orOne o) 1) ≡ capped (cond q (orOne (cappedIn o)) 1)
-capped-else true o = capped-one o
-capped-else false o = refl
-
 module _ (f : ℕ → Option ℕ) where
   pub capped-spread : {s : Sort} (n : ℕ) (t : Tm s) → capped (spreadDepth f n t) ≡ capped (spreadDepth (λ y. cappedIn (f y)) n t)
   capped-spread n (Var x) = capped-if (ltb x n) (f (x - n))
@@ -301,30 +286,12 @@ module _ (f : ℕ → Option ℕ) where
   capped-spread n (Meta z ts) = let e = capped-spread n ts in omega arith
   capped-spread n (Abst t) = let e = capped-spread (suc n) t in omega arith
   capped-spread n Nil = refl
-  capped-spread n (Cons t ts) = capped-max _ _ _ _ (capped-spread n t) (capped-spread n ts)
-
-  pub capped-total : (r k : ℕ) (ws hs : List ℕ)
-      → capped (total max 0 (nodeDepth f r) k ws hs) ≡ capped (total max 0 (nodeDepth (λ y. cappedIn (f y)) r) k ws hs)
-  unfolding total
-  capped-total r zero ws hs = refl
-  capped-total r (suc k) [] hs = refl
-  capped-total r (suc k) (w ∷ []) hs = refl
-  capped-total r (suc k) (w ∷ c ∷ ws) [] = refl
-  capped-total r (suc k) (w ∷ c ∷ ws) (h ∷ hs) =
-      capped-max _ _ _ _ (capped-further (levelsIn r h) _ _ (capped-else (isFree w (insideOf r h)) (f (w - insideOf r h)))) (capped-total r k ws hs)
+  capped-spread n (Cons t ts) = capped-both _ _ _ _ (capped-spread n t) (capped-spread n ts)
 
 -- ---- Every body was measured
 
 and-both : {a b : Bool} → a ≡ true → b ≡ true → a && b ≡ true
 and-both p q = rw (p, q)
-
-and-first : (a b : Bool) → a && b ≡ true → a ≡ true
-and-first true b e = refl
-and-first false b e = e
-
-and-second : (a b : Bool) → a && b ≡ true → b ≡ true
-and-second true b e = e
-and-second false b e = never (cc)
 
 module _ (s : ℕ → Bool) (r : ℕ) where
   -- node j of these words and places, if it is a free variable, passes the test
@@ -336,15 +303,8 @@ module _ (s : ℕ → Bool) (r : ℕ) where
   seen-if true p f = f refl
   seen-if false p f = refl
 
-  if-seen : (q p : Bool) → cond q p true ≡ true → q ≡ true → p ≡ true
-  if-seen true p e h = e
-  if-seen false p e h = never (cc)
-
   later-node : (w c h : ℕ) (ws hs : List ℕ) (j : ℕ) → Passes (w ∷ c ∷ ws) (h ∷ hs) (suc j) → Passes ws hs j
   later-node w c h ws hs j f = let z : 2 * suc j ≡ suc (suc (2 * j)) = omega arith in rw z at f
-
-  node-later : (w c h : ℕ) (ws hs : List ℕ) (j : ℕ) → Passes ws hs j → Passes (w ∷ c ∷ ws) (h ∷ hs) (suc j)
-  node-later w c h ws hs j f = let z : 2 * suc j ≡ suc (suc (2 * j)) = omega arith in rw z f
 
   pub seen-all : (k : ℕ) (ws hs : List ℕ) → ((j : ℕ) → j < k → Passes ws hs j) → total _&&_ true (nodeSeen s r) k ws hs ≡ true
   unfolding total
@@ -354,14 +314,3 @@ module _ (s : ℕ → Bool) (r : ℕ) where
   seen-all (suc k) (w ∷ c ∷ ws) [] f = refl
   seen-all (suc k) (w ∷ c ∷ ws) (h ∷ hs) f =
       and-both (seen-if _ _ (f 0 (omega arith))) (seen-all k ws hs (λ j l. later-node w c h ws hs j (f (suc j) (omega arith))))
-
-  pub seen-each : (k : ℕ) (ws hs : List ℕ) → 2 * k ≤ length ws → k ≤ length hs → total _&&_ true (nodeSeen s r) k ws hs ≡ true → (j : ℕ) → j < k
-      → Passes ws hs j
-  unfolding total
-  seen-each zero ws hs m l t j i = absurd (omega arith)
-  seen-each (suc k) [] hs m l t j i = absurd (omega arith)
-  seen-each (suc k) (w ∷ []) hs m l t j i = absurd (omega arith)
-  seen-each (suc k) (w ∷ c ∷ ws) [] m l t j i = absurd (omega arith)
-  seen-each (suc k) (w ∷ c ∷ ws) (h ∷ hs) m l t zero i = if-seen _ _ (and-first (nodeSeen s r w c h) _ t)
-  seen-each (suc k) (w ∷ c ∷ ws) (h ∷ hs) m l t (suc j) i =
-      node-later w c h ws hs j (seen-each k ws hs (omega arith) (omega arith) (and-second (nodeSeen s r w c h) _ t) j (omega arith))

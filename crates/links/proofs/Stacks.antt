@@ -1,28 +1,20 @@
--- A stack of trees, the newest first, while code runs: how many trees, how many nodes they make together, how far they reach, how deep they are.
+-- A stack of trees, the newest first, while code runs: how many trees, how many nodes they make together, how far they reach.
 use mathlib.Core.Path.{_≡_, refl, ap, _∙_}
 use Prim.Native.Nat.{ℕ, zero, suc, _+_, _-_, _≤_, max}
 use native.Mathlib.Omega.{arith}
 use mathlib.Core.Option.{Option, none, some}
 use mathlib.Core.List.{List, [], _∷_}
 use lib.Dec.{T, leb, ltb}
-use lib.ListN.{length, take}
+use lib.ListN.{length}
 use borrow.Author.Tests.{eqb-true}
 use Rattle.documents.specs.Terms.{one, many, Term}
 use Rattle.documents.specs.Instructions.{Piece, instruction, program, bodies, Code, IS, ISABST, NEXT, CHECK, SET, EQVAR, EQIMM, EQI, CELL, LAMBDA, ADBMAL, PUSHVAR, PUSHIMM, PUSHI, End, _▸_, None, Body, Program}
 use Rattle.documents.proofs.Lists.{never, on, needed, andThen-is}
-use Rattle.trees.specs.Trees.{Tree, Cell, Leaf, More, count, taken, left, blocked, topOf, grown, sum, nodesOf, greatest, depthOf, reachOf}
+use Rattle.trees.specs.Trees.{Tree, Cell, Leaf, More, taken, left, blocked, topOf, grown, sum, nodesOf, greatest, reachOf}
 use Rattle.trees.proofs.Growing.{length-left}
-use Rattle.links.specs.Links.{capped}
 use Rattle.links.specs.Sequences.{isOne, ran}
-use Rattle.links.proofs.Safe.{count-taken}
 
 -- ---- How many
-
-pub taken-count : (n : ℕ) (ps : Tree many) (st : List (Tree one)) → n ≤ length st → count (taken n ps st) ≡ n + count ps
-taken-count n ps st h = let k = count-taken n ps st h in omega arith
-
-pub left-length : (n : ℕ) (st : List (Tree one)) → length (left n st) ≡ length st - n
-left-length = length-left
 
 -- as many as `ran` says
 abbrev Lengths : ℕ → (p : Piece) → Code p → Type 0
@@ -37,7 +29,7 @@ module _ (E : ℕ) where
   CELL-length : (s n : ℕ) → Lengths E instruction (CELL s n)
   CELL-length s n st k e =
       let q = needed (leb n (length st)) _ k e in
-      let l = left-length n st in
+      let l = length-left n st in
       let z = one-more (length st - n) k (q .1) in
       omega arith
 
@@ -160,45 +152,6 @@ module _ (ent : ℕ → Term) where
   taken-reaches (suc n) ps [] = refl
   taken-reaches (suc n) ps (p ∷ st) = let h = taken-reaches n (More p ps) st in omega arith
 
-  -- a CELL and an ADBMAL no further
+  -- a CELL no further
   pub cell-reaches : (s n : ℕ) (st : List (Tree one)) → reaches (Cell s (taken n Leaf st) ∷ left n st) ≡ reaches st
   cell-reaches s n st = let h = taken-reaches n Leaf st in omega arith
-
-  pub blocked-reaches : (st : List (Tree one)) → reaches (blocked st) ≡ reaches st
-  blocked-reaches [] = refl
-  blocked-reaches (p ∷ st) = refl
-
-  -- ---- How deep they are
-
-  -- the deepest of the newest n
-  abbrev pub deepest : ℕ → List (Tree one) → ℕ
-  deepest zero st = 0
-  deepest (suc n) [] = 0
-  deepest (suc n) (p ∷ st) = max (depthOf ent p) (deepest n st)
-
-  pub taken-deepest : (n : ℕ) (ps : Tree many) (st : List (Tree one)) → greatest (depthOf ent (taken n ps st)) ≡ max (deepest n st) (greatest (depthOf ent ps))
-  taken-deepest zero ps st = omega arith
-  taken-deepest (suc n) ps [] = omega arith
-  taken-deepest (suc n) ps (p ∷ st) = let h = taken-deepest n (More p ps) st in omega arith
-
-  -- their depths, no higher than the cap
-  abbrev pub AllDepths : List (Tree one) → List ℕ → Type 0
-  AllDepths [] [] = Unit {0}
-  AllDepths [] (d ∷ ds) = ⊥
-  AllDepths (p ∷ st) [] = ⊥
-  AllDepths (p ∷ st) (d ∷ ds) = (d ≡ capped (depthOf ent p)) × AllDepths st ds
-
-  capped-deepest : (n : ℕ) (st : List (Tree one)) (ds : List ℕ) → AllDepths st ds → capped (deepest n st) ≡ greatest (take n ds)
-  capped-deepest zero st ds h = refl
-  capped-deepest (suc n) [] [] h = refl
-  capped-deepest (suc n) [] (d ∷ ds) h = absurd h
-  capped-deepest (suc n) (p ∷ st) [] h = absurd h
-  capped-deepest (suc n) (p ∷ st) (d ∷ ds) h = let e = h .0 in let k = capped-deepest n st ds (h .1) in omega arith
-
-  -- the depth of a CELL over the newest n
-  pub capped-taken : (n : ℕ) (st : List (Tree one)) (ds : List ℕ) → AllDepths st ds
-      → capped (suc (greatest (depthOf ent (taken n Leaf st)))) ≡ capped (greatest (take n ds) + 1)
-  capped-taken n st ds h =
-      let k = capped-deepest n st ds h in
-      let e = taken-deepest n Leaf st in
-      omega arith

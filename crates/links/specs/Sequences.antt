@@ -10,8 +10,8 @@ use Rattle.documents.specs.Lists.{need, andThen}
 use Rattle.documents.specs.Terms.{one, many}
 use Rattle.documents.specs.Instructions.{Piece, instruction, program, bodies, Code, IS, ISABST, NEXT, CHECK, SET, EQVAR, EQIMM, EQI, CELL, LAMBDA, ADBMAL, PUSHVAR, PUSHIMM, PUSHI, End, _▸_, None, Body, Program}
 use Rattle.instructions.specs.Places.{programAt}
+use Rattle.instructions.specs.Bodies.{bodyEnd}
 use Rattle.trees.specs.Trees.{Tree, Bound, Leaf, More, topOf, grown}
-use Rattle.links.specs.Bodies.{bodyEnd}
 
 abbrev pub isOne : Option ℕ → Bool
 isOne none = false

@@ -11,10 +11,10 @@ use Rattle.documents.specs.Terms.{Sort, one, many, Var, Term}
 use Rattle.documents.specs.Tables.{tableOf, Fits, nodes, depth, subterm}
 use Rattle.documents.specs.Instructions.{opCELL, opADBMAL, opPUSHVAR, opPUSHIMM, opPUSHI, fixedAfter}
 use Rattle.tables.specs.Parts.{front}
+use Rattle.instructions.specs.Bodies.{bodyEnd, keyPlace}
 use Rattle.trees.specs.Trees.{Tree, Cell, Block, Bound, Whole, Pushed, Leaf, More, count, nodesOf, depthOf, reachOf}
 use Rattle.survey.specs.Places.{placesOf}
 use Rattle.links.specs.Links.{beforeIn, overIn, depthIn, capped, noteOf}
-use Rattle.links.specs.Bodies.{bodyEnd, keyPlace}
 use Rattle.links.specs.Nodewise.{total, seenAt, nodeSeen}
 
 -- where an entry, counted from the newest, begins in the subject; the newest stands last

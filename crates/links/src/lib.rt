@@ -1,7 +1,5 @@
-// What the two walks of a result share, that which measures it and that which writes it: what stands in the working table, the bodies of a PUSHI, and
-// the variables of an entry.
+// What the two walks of a result share, that which measures it and that which writes it: what stands in the working table, and the variables of an entry.
 pub mod link; // what the working table holds of an instruction
-pub mod find; // the bodies of a PUSHI
 pub mod variable; // the variables of an entry
 
 // Where the places of the subject's nodes begin in the working table; before that is a word for each word of the code.

@@ -89,6 +89,9 @@ goes-as e g = rw e at g
 first-numbered : (subject : Term) (cs : List Current) (d k : ℕ) (t : Term) (us : List Current) → cs ≡ current d k t ∷ us → Numbered subject cs → subterm subject k ≡ some t
 first-numbered subject cs d k t us e h = (rw e at h) .0
 
+later : {t u : Term} {ts us : Terms} → Cons t ts ≡ Cons u us → ts ≡ us
+later e = cc
+
 some-is : {M N : Matching} → some M ≡ some N → N ≡ M
 some-is e = cc
 
@@ -154,9 +157,6 @@ module _ {code subject entries : List ℕ} {at top owed made : ℕ} (m : Midway 
             let l : p .later ≡ behind m is-read = later (sym (p .node) ∙ q) in
             let a : args ≡ p .arguments = rw (word₁, drop-drop 2 top subject) (arguments-are (owed - 1 + getD subject (top + 1) 0) (drop (top + 2) subject) p) in
             ap (λ (n : ℕ). terms (owed - 1 + n) (drop (top + 2) subject)) (sym f) ∙ p .inside ∙ ap₂ join (sym a) l
-          where
-            later : {t u : Term} {ts us : Terms} → Cons t ts ≡ Cons u us → ts ≡ us
-            later e = cc
 
         front-nodes : nodes (front (drop top subject)) ≡ suc (nodes args)
         front-nodes =
@@ -215,9 +215,6 @@ module _ {code subject entries : List ℕ} {at top owed made : ℕ} (m : Midway 
           let q = passed owed (drop top subject) (m .walking .walk .begins) h .terms-are in
           let s = passed owed (drop (top + 2) subject) (walks .walk .begins) h .terms-are in
           s ∙ ap (Cons (front (drop (top + 2) subject))) (ap (terms (owed - 1)) (drop-drop (wordCount (front (drop (top + 2) subject))) (top + 2) subject) ∙ later (sym p ∙ q))
-        where
-          later : {t u : Term} {ts us : Terms} → Cons t ts ≡ Cons u us → ts ≡ us
-          later e = cc
 
       pub abst-moves : Moves m (entriesAfter (getD code at 0) entries made top) (madeAfter (getD code at 0) made) (at + 1) (top + 2) owed
       abst-moves =

@@ -3,26 +3,27 @@ use mathlib.Core.Path.{_≡_, refl, sym, ap, _∙_}
 use Prim.Native.Nat.{ℕ, zero, suc, _+_, _-_, _*_, _≤_, _<_}
 use native.Mathlib.Omega.{arith}
 use mathlib.Core.Bool.{Bool, true, false}
-use mathlib.Core.Option.{Option, none, some}
+use mathlib.Core.Option.{some}
 use mathlib.Core.List.{List, [], _∷_}
 use lib.Dec.{T, leb}
 use lib.ListN.{length, getD, take, drop}
-use borrow.Author.Tests.{ne-eqb, lt-ltb, leb-true, leb-false}
+use borrow.Author.Tests.{ne-eqb, lt-ltb}
 use Rattle.documents.specs.declared.Refusal.the-variants.{MatchFails}
 use Rattle.documents.specs.Lists.{need}
 use Rattle.documents.specs.Terms.{Nil, Cons, Term, Terms, len}
 use Rattle.documents.specs.Tables.{nodes}
-use Rattle.documents.specs.Instructions.{IS, ISABST, NEXT, CHECK, SET, EQVAR, EQIMM, EQI, _▸_, Instruction, Program, Read, whole, opcode, fixedAfter, pairsIn, before}
+use Rattle.documents.specs.Instructions.{IS, ISABST, NEXT, CHECK, SET, EQVAR, EQIMM, EQI, _▸_, Instruction, Program, whole, opcode, fixedAfter, pairsIn}
 use Rattle.documents.specs.Machine.{Current, current, State, state, done, fails, test, currents, exec}
 use Rattle.documents.specs.Passing.{Slot, Matching, matching, times, matchStep, parts}
-use Rattle.documents.proofs.Lists.{never, case, on, off, T-of, andThen-is}
+use Rattle.documents.proofs.Lists.{T-of}
 use Rattle.documents.proofs.Nodes.{numbered-step}
 use Rattle.tables.specs.Parts.{front, terms, Begins, wordCount}
 use Rattle.tables.specs.Compared.{agrees}
 use Rattle.tables.proofs.Parts.{join, only, Step, passed, begins-less}
 use Rattle.tables.proofs.Walks.{Walking}
 use Rattle.instructions.specs.Places.{programAt, readAt}
-use Rattle.instructions.proofs.Reading.{readThen, read-opcode, read-within, read-is, read-isabst, read-next, read-check, read-set, read-eqvar, read-eqimm, read-eqi, program-plain, program-short}
+use Rattle.instructions.proofs.Reading.{read-opcode, read-is, read-isabst, read-next, read-check, read-set, read-eqvar, read-eqimm, read-eqi}
+use Rattle.instructions.proofs.Starts.{fixed-at, starts-plain, read-if}
 use Rattle.safety.proofs.Matching.{matches-as-checked}
 use Rattle.matcher.specs.Midway.{Any, inLine, entered, Stands, Midway, stateOf, entriesAfter, madeAfter, Moves, Fails}
 use Rattle.matcher.proofs.Places.{match-checked, not-ended, TopOf, top-of, depth-low, goes-agrees, in-line-join}
@@ -71,66 +72,46 @@ module _ {code subject entries : List ℕ} {at top owed made : ℕ} (m : Midway 
     pub goes : matchStep i (matching (m .ds) (m .es) (m .g)) ≡ some after
     pub checked : T (parts c after)
 
-  pub fixed : at + 1 + fixedAfter (getD code at 0) ≤ length code
-  fixed =
-      case (λ q. at + 1 + fixedAfter (getD code at 0) ≤ length code) (leb (at + 1 + fixedAfter (getD code at 0)) (length code)) (λ y. leb-true _ _ (on _ y))
-      (λ y. never (nothing (sym (program-short code at (length code) (m .inside) (omega arith) (leb-false _ _ (off _ y))) ∙ m .here)))
-    where
-      nothing : none ≡ some (m .rest) → _≡_ {A = ℕ} 0 1
-      nothing e = cc
-
   module _ (w : getD code at 0 ≤ 7) where
-    rest-read : readThen (readAt code at (length code)) (λ i n. before i (programAt code (at + 1 + n) (length code))) ≡ some (m .rest)
-    rest-read = sym (program-plain code at (length code) (m .inside) (omega arith) (λ q. omega arith)) ∙ m .here
-
     reads : (i : Instruction) (n : ℕ) → readAt code at (length code) ≡ some (whole i n) → Reads i n
     reads i n r =
-        let h : before i (programAt code (at + 1 + n) (length code)) ≡ some (m .rest) = rw r at rest-read in
-        let q = andThen-is (programAt code (at + 1 + n) (length code)) _ (m .rest) h in
-        let b : m .rest ≡ i ▸ q .0 = is (q .2) in
+        let s = starts-plain code (m .here) (m .inside) (omega arith) i n (at + 1 + n) (λ q. omega arith) r refl in
         let o = read-opcode code at (length code) i n r in
         let k : opcode i ≤ 7 = omega arith in
-        let a = match-checked (m .rest) i (q .0) (matching (m .ds) (m .es) (m .g)) b k (m .checked) in
-        record { c = q .0; begins = b; next = q .1; within = read-within code at (length code) i n (m .inside) r .1; match = k; after = a .0; goes = a .1; checked = a .2 }
-      where
-        is : {c : Program} → some (i ▸ c) ≡ some (m .rest) → m .rest ≡ i ▸ c
-        is e = cc
+        let a = match-checked (m .rest) i (s .rest) (matching (m .ds) (m .es) (m .g)) (s .is) k (m .checked) in
+        record { c = s .rest; begins = s .is; next = s .behind; within = s .within; match = k; after = a .0; goes = a .1; checked = a .2 }
 
     -- a list or pairs of which the code has all words
     reads-if : (i : Instruction) (n : ℕ) (q : Bool) → readAt code at (length code) ≡ need q (some (whole i n)) → Reads i n
-    reads-if i n true r = reads i n r
-    reads-if i n false r = never (nothing (sym (ap (λ (o : Option Read). readThen o (λ i n. before i (programAt code (at + 1 + n) (length code)))) r) ∙ rest-read))
-      where
-        nothing : none ≡ some (m .rest) → _≡_ {A = ℕ} 0 1
-        nothing e = cc
+    reads-if i n q r = reads i n (read-if code (m .here) (m .inside) (omega arith) q (λ q. omega arith) r)
 
-  fixed-at : (w : ℕ) → getD code at 0 ≡ w → at + 1 + fixedAfter w ≤ length code
-  fixed-at w o = rw o at fixed
+  there : (w : ℕ) → getD code at 0 ≡ w → at + 1 + fixedAfter w ≤ length code
+  there w o = fixed-at code (m .here) (m .inside) (omega arith) w o
 
   pub reads-is : getD code at 0 ≡ 0 → Reads (IS (getD code (at + 1) 0) (getD code (at + 2) 0)) 2
-  reads-is o = reads (omega arith) _ 2 (read-is code at (length code) o refl (fixed-at 0 o))
+  reads-is o = reads (omega arith) _ 2 (read-is code at (length code) o refl (there 0 o))
 
   pub reads-isabst : getD code at 0 ≡ 1 → Reads ISABST 0
-  reads-isabst o = reads (omega arith) _ 0 (read-isabst code at (length code) o refl (fixed-at 1 o))
+  reads-isabst o = reads (omega arith) _ 0 (read-isabst code at (length code) o refl (there 1 o))
 
   pub reads-next : getD code at 0 ≡ 2 → Reads NEXT 0
-  reads-next o = reads (omega arith) _ 0 (read-next code at (length code) o refl (fixed-at 2 o))
+  reads-next o = reads (omega arith) _ 0 (read-next code at (length code) o refl (there 2 o))
 
   pub reads-check : getD code at 0 ≡ 3 → Reads (CHECK (take (getD code (at + 1) 0) (drop (at + 2) code))) (1 + getD code (at + 1) 0)
-  reads-check o = reads-if (omega arith) _ _ (leb (1 + getD code (at + 1) 0) (length code - (at + 1))) (read-check code at (length code) o refl (fixed-at 3 o))
+  reads-check o = reads-if (omega arith) _ _ (leb (1 + getD code (at + 1) 0) (length code - (at + 1))) (read-check code at (length code) o refl (there 3 o))
 
   pub reads-set : getD code at 0 ≡ 4 → Reads SET 0
-  reads-set o = reads (omega arith) _ 0 (read-set code at (length code) o refl (fixed-at 4 o))
+  reads-set o = reads (omega arith) _ 0 (read-set code at (length code) o refl (there 4 o))
 
   pub reads-eqvar : getD code at 0 ≡ 5 → Reads (EQVAR (getD code (at + 1) 0)) 1
-  reads-eqvar o = reads (omega arith) _ 1 (read-eqvar code at (length code) o refl (fixed-at 5 o))
+  reads-eqvar o = reads (omega arith) _ 1 (read-eqvar code at (length code) o refl (there 5 o))
 
   pub reads-eqimm : getD code at 0 ≡ 6 → Reads (EQIMM (getD code (at + 1) 0)) 1
-  reads-eqimm o = reads (omega arith) _ 1 (read-eqimm code at (length code) o refl (fixed-at 6 o))
+  reads-eqimm o = reads (omega arith) _ 1 (read-eqimm code at (length code) o refl (there 6 o))
 
   pub reads-eqi : getD code at 0 ≡ 7
       → Reads (EQI (getD code (at + 1) 0) (getD code (at + 2) 0) (pairsIn (take (2 * getD code (at + 3) 0) (drop (at + 4) code)))) (3 + 2 * getD code (at + 3) 0)
-  reads-eqi o = reads-if (omega arith) _ _ (leb (3 + 2 * getD code (at + 3) 0) (length code - (at + 1))) (read-eqi code at (length code) o refl (fixed-at 7 o))
+  reads-eqi o = reads-if (omega arith) _ _ (leb (3 + 2 * getD code (at + 3) 0) (length code - (at + 1))) (read-eqi code at (length code) o refl (there 7 o))
 
   -- ---- with a current term
 

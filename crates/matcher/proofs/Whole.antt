@@ -3,11 +3,11 @@ use mathlib.Core.Path.{_≡_, refl, sym, ap, _∙_}
 use Prim.Native.Nat.{ℕ, zero, suc, _+_, _-_, _<_}
 use native.Mathlib.Omega.{arith}
 use mathlib.Core.Bool.{true, false}
-use mathlib.Core.Option.{some}
+use mathlib.Core.Option.{some, Option·some-injective}
 use mathlib.Core.List.{List, [], _∷_}
-use lib.Dec.{T, ltb}
+use lib.Dec.{T}
 use lib.ListN.{length, getD, drop, set}
-use borrow.Author.Tests.{eq-eqb, ne-eqb, lt-ltb, le-ltb, ltb-true, ltb-false}
+use borrow.Author.Tests.{eq-eqb, ne-eqb, le-ltb}
 use Rattle.documents.specs.declared.Refusal.{Refusal}
 use Rattle.documents.specs.declared.Refusal.the-variants.{MatchFails}
 use Rattle.documents.specs.Terms.{Nil, Cons, Terms}
@@ -15,7 +15,7 @@ use Rattle.documents.specs.Instructions.{End, _▸_, Instruction, Program, opco
 use Rattle.documents.specs.Machine.{State, state, done, fails, exec, run, start}
 use Rattle.documents.specs.Passing.{Slot, slot, Matching, matching, oneTerm, build, builds, parts, passes}
 use Rattle.documents.specs.Numbers.{answered, subjectIn}
-use Rattle.documents.proofs.Lists.{case, on, off, T-of}
+use Rattle.documents.proofs.Lists.{T-of}
 use Rattle.documents.proofs.FreeVariables.{free-all}
 use Rattle.documents.proofs.Nodes.{Numbered, numbered-start}
 use Rattle.tables.specs.Parts.{front, terms}
@@ -31,7 +31,7 @@ use Rattle.matcher.specs.declared.Stepped.{Stepped}
 use Rattle.matcher.specs.declared.Stepped.the-variants as stepped
 use Rattle.matcher.specs.declared.Matched.the-variants as matched
 use Rattle.matcher.specs.Midway.{Any, inLine, entered, Midway, stateOf, entriesAfter, madeAfter, Moves, Fails, Steps}
-use Rattle.matcher.specs.Ready.{entryAt, Ready, Comes}
+use Rattle.matcher.specs.Ready.{Ready, Comes}
 use Rattle.matcher.proofs.Places.{not-ended}
 use Rattle.matcher.proofs.Opcodes.{accepted-subject}
 
@@ -79,10 +79,7 @@ module _ (code subject entries : List ℕ) (p : passes code ≡ true) (a : subje
 
   pub start-rest : (c : Program) → programIn code ≡ some c → midway-start .rest ≡ c
   unfolding midway-start
-  start-rest c e = same (sym (passing-obeys code (T-of _ p) .1) ∙ e)
-    where
-      same : {c d : Program} → some c ≡ some d → c ≡ d
-      same e = cc
+  start-rest c e = Option·some-injective _ _ (sym (passing-obeys code (T-of _ p) .1) ∙ e)
 
 -- ---- from instruction to instruction
 
@@ -145,19 +142,13 @@ none-left : (ds : List ℕ) (es : List Slot) (g : List ℕ) (c : Program) → T 
 none-left [] es g c t = (refl, t)
 none-left (d ∷ ds) es g c t = absurd t
 
-both-suc : (e n : ℕ) → ltb (suc e) (suc n) ≡ ltb e n
-both-suc e n =
-    case (λ q. ltb (suc e) (suc n) ≡ q) (ltb e n) (λ y. let h = ltb-true e n (on _ y) in lt-ltb (suc e) (suc n) (omega arith))
-    (λ y. let h = ltb-false e n (off _ y) in le-ltb (suc e) (suc n) (omega arith))
-
-entered-of : (subject entries : List ℕ) (es : List Slot) (e : ℕ) → entryOf (entered subject entries es) e ≡ entryAt subject entries (length es) e
-entered-of subject entries [] e = rw (le-ltb e 0 (omega arith))
-entered-of subject entries (slot b g ∷ es) zero =
-    let z : suc (length es) - 1 - 0 ≡ length es = omega arith in
-    rw (lt-ltb 0 (suc (length es)) (omega arith), z)
-entered-of subject entries (slot b g ∷ es) (suc e) =
+entered-of : (subject entries : List ℕ) (es : List Slot) (e : ℕ) → e < length es
+    → entryOf (entered subject entries es) e ≡ front (drop (getD entries (length es - 1 - e) 0) subject)
+entered-of subject entries [] e l = absurd (omega arith)
+entered-of subject entries (slot b g ∷ es) zero l = let z : suc (length es) - 1 - 0 ≡ length es = omega arith in rw z
+entered-of subject entries (slot b g ∷ es) (suc e) l =
     let z : suc (length es) - 1 - suc e ≡ length es - 1 - e = omega arith in
-    entered-of subject entries es e ∙ rw (both-suc e (length es), z)
+    rw z (entered-of subject entries es e (omega arith))
 
 module _ {code subject entries : List ℕ} {at top current made : ℕ} (m : Midway code subject entries at top current made) (w : 7 < getD code at 0) where
   pub begins-build : (m .ds ≡ []) × T (oneTerm (build (m .es) false 0 0 (m .rest) (0 ∷ [])))
@@ -166,8 +157,10 @@ module _ {code subject entries : List ℕ} {at top current made : ℕ} (m : Midw
   pub build-state : stateOf m ≡ state [] (entered subject entries (m .es)) [] 0 []
   build-state = ap (λ (ds : List ℕ). state (inLine ds (m .node) (terms current (drop top subject))) (entered subject entries (m .es)) [] 0 []) (begins-build .0)
 
-  terms-are : (e : ℕ) → entryOf (entered subject entries (m .es)) e ≡ entryAt subject entries made e
-  terms-are e = entered-of subject entries (m .es) e ∙ ap (λ (n : ℕ). entryAt subject entries n e) (m .count)
+  terms-are : (e : ℕ) → e < made → entryOf (entered subject entries (m .es)) e ≡ front (drop (getD entries (made - 1 - e) 0) subject)
+  terms-are e l =
+      let n = m .count in
+      entered-of subject entries (m .es) e (omega arith) ∙ ap (λ (n : ℕ). front (drop (getD entries (n - 1 - e) 0) subject)) n
 
   pub ready : (c : Program) → run c (front subject) ≡ exec (m .rest) (stateOf m) → Ready code subject entries c at made
   ready c e = record {
@@ -184,8 +177,7 @@ module _ {code subject entries : List ℕ} {at top current made : ℕ} (m : Midw
     terms = terms-are;
     stands = λ e l.
         let s = m .stands (made - 1 - e) (omega arith) in
-        let t : entryOf (entered subject entries (m .es)) e ≡ front (drop (getD entries (made - 1 - e) 0) subject) = terms-are e ∙ rw (lt-ltb e made l) in
-        (s .node, s .place-is, s .here ∙ ap some (sym t));
+        (s .node, s .place-is, s .here ∙ ap some (sym (terms-are e l)));
   }
 
 pub going-build : {code subject entries : List ℕ} {at top current made : ℕ} → Going code subject entries at top current made → 7 < getD code at 0

@@ -1,13 +1,12 @@
 -- What the match part leaves to the build part.
 use mathlib.Core.Path.{_≡_}
 use Prim.Native.Nat.{ℕ, _-_, _*_, _≤_, _<_}
-use mathlib.Core.Bool.{false, cond}
+use mathlib.Core.Bool.{false}
 use mathlib.Core.Option.{some}
 use mathlib.Core.List.{List, [], _∷_}
-use lib.Dec.{T, ltb}
+use lib.Dec.{T}
 use lib.ListN.{length, getD, drop}
 use Rattle.documents.specs.declared.Refusal.the-variants.{MatchFails}
-use Rattle.documents.specs.Terms.{Var, Term}
 use Rattle.documents.specs.Tables.{subterm}
 use Rattle.documents.specs.Instructions.{Program, programIn}
 use Rattle.documents.specs.Machine.{Entry, state, fails, exec, run}
@@ -19,10 +18,7 @@ use Rattle.trees.specs.Trees.{entryOf}
 use Rattle.matcher.specs.declared.Matched.{Matched}
 use Rattle.matcher.specs.declared.Matched.the-variants as matched
 
--- the term of entry e, counted from the newest: its word place stands in a table, the newest last
-abbrev pub entryAt : List ℕ → List ℕ → ℕ → ℕ → Term
-entryAt subject entries made e = cond (ltb e made) (front (drop (getD entries (made - 1 - e) 0) subject)) (Var 0)
-
+-- the build part, with what the machine has there; entries are counted from the newest, and the table of their places has the newest last
 pub record Ready (code subject entries : List ℕ) (c : Program) (at made : ℕ) : Type 0 where
   pub rest : Program
   pub env : List Entry
@@ -34,7 +30,7 @@ pub record Ready (code subject entries : List ℕ) (c : Program) (at made : ℕ)
   pub ok : EntriesOk (λ x. Unit {0}) es env
   pub few : made ≤ 16
   pub count : length env ≡ made
-  pub terms : (e : ℕ) → entryOf env e ≡ entryAt subject entries made e
+  pub terms : (e : ℕ) → e < made → entryOf env e ≡ front (drop (getD entries (made - 1 - e) 0) subject)
   pub stands : (e : ℕ) → e < made → (m : ℕ) × (getD entries (made - 1 - e) 0 ≡ 2 * m) × (subterm (front subject) m ≡ some (entryOf env e))
 
 module _ (code subject entries : List ℕ) (c : Program) where

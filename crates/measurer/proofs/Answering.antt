@@ -8,10 +8,10 @@ use lib.Dec.{eqb}
 use lib.ListN.{length, getD, set}
 use borrow.Author.Tests.{eqb-true, eqb-false}
 use Rattle.documents.specs.Instructions.{fixedAfter}
+use Rattle.instructions.specs.declared.body.Found.the-variants.{Key}
+use Rattle.instructions.specs.Bodies.{bodyEnd, keyPlace, foundAt, Readable}
 use Rattle.trees.specs.Trees.{orOne, nodesOf}
-use Rattle.links.specs.declared.find.Found.the-variants.{Key}
 use Rattle.links.specs.Links.{linkOf, reachIn}
-use Rattle.links.specs.Bodies.{bodyEnd, keyPlace, foundAt, Readable}
 use Rattle.links.specs.Standing.{entryAt}
 use Rattle.links.specs.Sequences.{treeAt}
 use Rattle.links.proofs.Ran.{follows-within}

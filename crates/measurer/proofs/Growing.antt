@@ -2,35 +2,32 @@
 use mathlib.Core.Path.{_≡_, refl, sym, ap, ap₂, _∙_}
 use mathlib.Core.Logic.{_⊎_, inl, inr}
 use Prim.Native.Nat.{ℕ, suc, _+_, _-_, _≤_, _<_, max}
+use native.Mathlib.Nat.{add-zero, max-comm, max-le, max-zero}
 use native.Mathlib.Omega.{arith}
 use mathlib.Core.Bool.{Bool, true, false}
-use mathlib.Core.Option.{some}
 use mathlib.Core.List.{List, [], _∷_}
 use lib.Dec.{eqb}
 use lib.ListN.{length, getD, set, drop}
 use borrow.Author.Tests.{eq-eqb, ne-eqb, eqb-true, eqb-false}
 use Rattle.documents.specs.Terms.{Sort, one, many, Term}
 use Rattle.documents.specs.Instructions.{Program, Instruction, fixedAfter, CELL, ADBMAL, PUSHVAR, PUSHIMM, PUSHI}
+use Rattle.instructions.proofs.Bodies.{behind-low}
 use Rattle.trees.specs.Trees.{Tree, Cell, Block, Bound, Whole, Pushed, Leaf, count, taken, left, blocked, topOf, grown, nodesOf, depthOf, reachOf}
+use Rattle.trees.proofs.Growing.{length-left}
 use Rattle.links.specs.Links.{linkOf, beforeIn, overIn, capped}
 use Rattle.links.specs.Standing.{entryAt, Scene, back, Spot, root, last, held, Rooted, Named, Seen, Stands}
-use Rattle.instructions.specs.Places.{programAt}
-use Rattle.links.specs.Sequences.{treeIn, treeAt, keysAt, treesAt}
+use Rattle.links.specs.Sequences.{treeAt, keysAt, treesAt}
 use Rattle.links.proofs.Links.{link-before, link-over, link-depth}
 use Rattle.links.proofs.Ran.{Follows, Next, cell-next, lambda-next, adbmal-next, pushvar-next, pushimm-next, pushi-next, follows-done, follows-build}
-use Rattle.links.proofs.Keyed.{held-trees, behind-low, count-trees}
-use Rattle.links.proofs.Stacks.{sizes, reaches, cell-sizes, cell-reaches, blocked-sizes, taken-count, left-length, grown-top, grown-one}
+use Rattle.links.proofs.Safe.{count-taken}
+use Rattle.links.proofs.Keyed.{tree-here, held-trees, count-trees}
+use Rattle.links.proofs.Stacks.{sizes, reaches, cell-sizes, cell-reaches, blocked-sizes, grown-top, grown-one}
 use Rattle.measurer.specs.Linking.{deepestBack, overLink, plainLink, placeNext}
 use Rattle.measurer.specs.Measuring.{Kept, near, Sequence, Measure, Push, Pushing, pushTree, Walked}
 use Rattle.measurer.proofs.Linking.{link-pushvar, link-adbmal, link-cell, next-whole, next-push}
 use Rattle.measurer.proofs.Kept.{kept-none, kept-then, kept-wide, kept-set, set-here, set-there, scene-kept}
 use Rattle.measurer.proofs.Standing.{stands-kept, seen-all-kept}
 use Rattle.measurer.proofs.Stacking.{Stack, stands-deep, stands-falls, back-falls, stack-taken, deepest-taken, stack-kept}
-
--- the tree of a sequence, from the program that stands there
-tree-is : (t : List ℕ) (a e : ℕ) (c : Program) → programAt t a e ≡ some c → topOf (grown c []) ≡ treeAt t a e
-unfolding treeAt
-tree-is t a e c h = ap (λ o. treeIn o) (sym h)
 
 over-link-is : (work : List ℕ) (n z : ℕ) → overLink work n z ≡ linkOf (back work n z) z (capped (deepestBack work n z + 1))
 unfolding overLink
@@ -86,7 +83,7 @@ module _ (code subject entries work₀ : List ℕ) (from end most : ℕ) where
           rest = sq .makes .program;
           st = [];
           follows = record { here = sq .makes .here; runs = sq .makes .runs };
-          same = tree-is code from end (sq .makes .program) (sq .makes .here);
+          same = tree-here code from end (sq .makes .here);
           stack = tt;
           size = refl;
           fits = omega arith;
@@ -180,9 +177,6 @@ module _ (code subject entries work₀ : List ℕ) (from end most : ℕ) where
       restack v b h st y s =
           rw (places-same v) (stack-kept code subject entries (drop 4096 work) work (linked v) from at from b (agree v) (omega arith) h st y s)
 
-      low-z : z < 4096
-      low-z = let h = g .root-low in let s = short in omega arith
-
       rooted : (op b o d v w : ℕ) (p : Tree one) → v ≡ linkOf w o d → w < at → o < at → b ≡ at + 1 + fixedAfter op → getD code at 0 ≡ op
           → d ≡ capped (depthOf ent p) → Rooted code subject entries (drop 4096 (linked v)) from b (linked v) at op p
       rooted op b o d v w p ev lw lo′ eb is ed = rooted-in code subject entries work from at room short op b o d v w p ev lw lo′ (g .low) (omega arith) is ed
@@ -260,8 +254,9 @@ module _ (code subject entries work₀ : List ℕ) (from end most : ℕ) where
           let t = stack-taken code subject entries (drop 4096 work) work from at k Leaf (g .st) z (nx .0) tt (g .stack) in
           let ps = taken k Leaf (g .st) in
           let dd = deepest-taken code subject entries (drop 4096 work) work from at k Leaf (g .st) z 0 (nx .0) (g .stack) refl in
-          let ll = left-length k (g .st) in
-          let ck : count ps ≡ k = taken-count k Leaf (g .st) (nx .0) ∙ plus-zero k in
+          let ll = length-left k (g .st) in
+          let ct = count-taken k Leaf (g .st) (nx .0) in
+          let ck : count ps ≡ k = omega arith in
           grow (CELL s k) (at + 3) (length (g .st) - k + 1) (n + 1) (Cell s ps) (left k (g .st)) (linked v) far (nx .1) refl (omega arith)
           (kept-set work at v (omega arith) (omega arith) short) (omega arith) (
             rooted 8 (at + 3) z d v w (Cell s ps) ev lw lz (omega arith) e (one-deeper _ _ dd),
@@ -275,9 +270,6 @@ module _ (code subject entries work₀ : List ℕ) (from end most : ℕ) where
         where
           one-deeper : (x y : ℕ) → capped (max 0 x) ≡ capped y → capped (x + 1) ≡ capped (suc y)
           one-deeper x y e = omega arith
-
-          plus-zero : (x : ℕ) → x + 0 ≡ x
-          plus-zero x = omega arith
 
       -- ---- PUSHIMM, PUSHI
 
@@ -422,15 +414,9 @@ module _ (code subject entries work₀ : List ℕ) (from end most : ℕ) where
             (kept₁ work₁ k₁ (pu .wide) v) (let w = pu .wide in omega arith)
             (go (pu .push .op))
             (rw (before-in work₁ at (room₁ work₁ k₁ (pu .wide) v) short v z 0 d ev lz) (stack₁ work₁ k₁ (pu .wide) v))
-            (let a = g .size in let b = r .size in omega arith) h (ef ∙ flip far f ∙ ap₂ max (r .reach) (g .reach))
-            (let a = g .close in let b = r .close in let c = g .low in let w = pu .wide in rw ef (both far f _ (omega arith) (omega arith)))
+            (let a = g .size in let b = r .size in omega arith) h (ef ∙ max-comm far f ∙ ap₂ max (r .reach) (g .reach))
+            (let a = g .close in let b = r .close in let c = g .low in let w = pu .wide in rw ef (max-le (omega arith) (omega arith)))
           where
-            flip : (x y : ℕ) → max x y ≡ max y x
-            flip x y = omega arith
-
-            both : (x y m : ℕ) → x ≤ m → y ≤ m → max x y ≤ m
-            both x y m a b = omega arith
-
             go : (getD code at 0 ≡ 12) ⊎ (getD code at 0 ≡ 13)
                 → Stands code subject entries (drop 4096 (set work₁ at v)) from (placeNext code at) (set work₁ at v) (pushTree code at) (root at)
             go (inl e) = whole₁ work₁ k₁ (pu .wide) v d ev e (r .deep) (rw (eq-eqb (getD code at 0) 12 e) at (r .walked))
@@ -457,7 +443,7 @@ module _ (code subject entries work₀ : List ℕ) (from end most : ℕ) where
           go : (x : ℕ) → getD code at 0 ≡ x → most < nodesOf ent (treeAt code from end)
           go x e =
               cases x (let b = build-op in omega arith) (omega arith) (λ q. ne (e ∙ q))
-              (λ q. let nx = cell-next (g .follows) lo inside (e ∙ q) in let ll = left-length (getD code (at + 2) 0) (g .st) in
+              (λ q. let nx = cell-next (g .follows) lo inside (e ∙ q) in let ll = length-left (getD code (at + 2) 0) (g .st) in
               more _ _ (cell-sizes ent (getD code (at + 1) 0) (getD code (at + 2) 0) (g .st))
               (at-least (CELL (getD code (at + 1) 0) (getD code (at + 2) 0)) _ _ _ (nx .1) refl (omega arith)))
               (λ q. let nx = adbmal-next (g .follows) lo inside (e ∙ q) in
@@ -497,15 +483,9 @@ module _ (code subject entries work₀ : List ℕ) (from end most : ℕ) where
         let p = o .0 in
         let t : p ≡ treeAt code from end = sym (ap topOf (o .1)) ∙ ap (λ (c : Program). topOf (grown c (g .st))) (sym (d .0)) ∙ g .same in
         record {
-          size = g .size ∙ ap (sizes ent) (o .1) ∙ plus-zero _ ∙ ap (λ (q : Tree one). nodesOf ent q) t;
+          size = g .size ∙ ap (sizes ent) (o .1) ∙ add-zero _ ∙ ap (λ (q : Tree one). nodesOf ent q) t;
           fits = g .fits;
           reach = g .reach ∙ ap (reaches ent) (o .1) ∙ max-zero _ ∙ ap (λ (q : Tree one). reachOf ent q) t;
           close = near-end at end far e (g .close);
           stands = alone work at end z (g .st) p _ (g .stack) (o .1) e t;
         }
-      where
-        plus-zero : (x : ℕ) → x + 0 ≡ x
-        plus-zero x = omega arith
-
-        max-zero : (x : ℕ) → max x 0 ≡ x
-        max-zero x = omega arith

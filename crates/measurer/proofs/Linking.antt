@@ -5,11 +5,11 @@ use native.Mathlib.Omega.{arith}
 use mathlib.Core.List.{List}
 use lib.ListN.{length, getD, set, length-set}
 use borrow.Author.Tests.{eq-eqb, ne-eqb}
+use Rattle.instructions.specs.Bodies.{bodyEnd, Readable, placeBehind}
+use Rattle.instructions.proofs.Bodies.{readable-more}
 use Rattle.trees.specs.Trees.{further}
 use Rattle.links.specs.Links.{linkOf, beforeIn, depthIn, capped}
-use Rattle.links.specs.Bodies.{bodyEnd, Readable, placeBehind}
 use Rattle.links.specs.Standing.{back}
-use Rattle.links.proofs.Bodies.{readable-more}
 use Rattle.measurer.specs.Linking.{deepestBack, overLink, plainLink, placeNext, forgotten}
 
 -- ---- Back over n trees
@@ -19,9 +19,6 @@ pub record Backing (work : List ℕ) (n₀ z₀ n z deep : ℕ) : Type 0 where
   pub deepest : max deep (deepestBack work n z) ≡ deepestBack work n₀ z₀
   pub low : z < 4096
   pub small : deep ≤ 255
-
-pub backing-from : {work : List ℕ} {n z : ℕ} → z < 4096 → Backing work n z n z 0
-backing-from h = record { same = refl; deepest = omega arith; low = h; small = omega arith }
 
 pub max-assoc : (a b c : ℕ) → max (max a b) c ≡ max a (max b c)
 max-assoc a b c = omega arith
@@ -82,9 +79,6 @@ next-whole code at e = rw (eq-eqb (getD code at 0) 12 e)
 pub next-push : (code : List ℕ) (at : ℕ) → (getD code at 0 ≡ 12 → ⊥) → placeBehind code (at + 4) (getD code (at + 3) 0) ≡ placeNext code at
 unfolding placeNext
 next-push code at n = rw (ne-eqb (getD code at 0) 12 n)
-
-pub further-none : (r n : ℕ) → r ≡ 0 → 0 ≡ further n r
-further-none r n e = rw e
 
 pub further-some : (r n : ℕ) → (r ≡ 0 → ⊥) → r + n ≡ further n r
 further-some zero n e = absurd (e refl)

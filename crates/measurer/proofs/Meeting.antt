@@ -11,11 +11,11 @@ use lib.ListN.{length, getD, set, drop, length-set}
 use borrow.Author.Tests.{ne-eqb}
 use Rattle.documents.specs.Terms.{one, Term}
 use Rattle.documents.proofs.Lists.{never}
+use Rattle.instructions.specs.declared.body.Found.the-variants.{Key, Missing}
+use Rattle.instructions.specs.Bodies.{bodyEnd, keyPlace, placeBehind, foundAt}
 use Rattle.trees.specs.Trees.{Tree, orOne, orMoved, further, nodesOf, depthOf, reachOf}
 use Rattle.trees.proofs.Sizes.{nodes-positive, depth-positive-of}
-use Rattle.links.specs.declared.find.Found.the-variants.{Key, Missing}
 use Rattle.links.specs.Links.{capped, depthIn, noteOf, nodesIn, reachIn}
-use Rattle.links.specs.Bodies.{bodyEnd, keyPlace, placeBehind, foundAt}
 use Rattle.links.specs.Nodewise.{seenAt}
 use Rattle.links.specs.Standing.{entryAt, root, Stands}
 use Rattle.links.specs.Sequences.{treeAt, Sequenced}
@@ -180,9 +180,6 @@ module _ {code subject entries work : List ℕ} {push c D w inside most : ℕ} (
 
       pub root-small : z < 4096
       root-small = let h = root-here in let a = body .0 in let b = fr .scene .code-short in omega arith
-
-      pub long₁ : length work₁ ≡ length work
-      long₁ = k₁ .long
 
       module _ (v : ℕ) where
         abbrev work₂ : List ℕ

@@ -1,7 +1,7 @@
 -- The bodies of a PUSHI that were measured: found by their keys, and noted one at a time.
 use mathlib.Core.Path.{_≡_, refl, _∙_}
 use mathlib.Core.Logic.{_⊎_, inl, inr}
-use Prim.Native.Nat.{ℕ, zero, suc, _+_, _-_, _≤_, _<_}
+use Prim.Native.Nat.{ℕ, zero, suc, _+_, _≤_, _<_}
 use native.Mathlib.Omega.{arith}
 use mathlib.Core.Bool.{Bool, true, false, cond}
 use mathlib.Core.Option.{Option, none, some}
@@ -9,15 +9,15 @@ use mathlib.Core.List.{List}
 use lib.Dec.{eqb}
 use lib.ListN.{length, getD, set, drop, length-set}
 use borrow.Author.Tests.{eq-eqb}
-use Rattle.documents.specs.Terms.{one}
 use Rattle.documents.proofs.Lists.{never}
+use Rattle.instructions.specs.Bodies.{bodyEnd, Readable, keyPlace, placeBehind}
+use Rattle.instructions.proofs.Bodies.{behind-low}
 use Rattle.trees.specs.Trees.{nodesOf, reachOf}
 use Rattle.links.specs.Links.{noteOf}
-use Rattle.links.specs.Bodies.{bodyEnd, Readable, keyPlace, placeBehind}
 use Rattle.links.specs.Nodewise.{seenAt}
 use Rattle.links.specs.Standing.{entryAt, root, held, Stands}
 use Rattle.links.specs.Sequences.{treeAt, keysAt, treesAt}
-use Rattle.links.proofs.Keyed.{key-at, keys-apart, behind-low}
+use Rattle.links.proofs.Keyed.{key-at, keys-apart}
 use Rattle.measurer.specs.Linking.{forgotten}
 use Rattle.measurer.specs.Measuring.{Kept, Memo, Memos}
 use Rattle.measurer.proofs.Kept.{kept-none, kept-then, kept-set, set-here}

@@ -11,14 +11,15 @@ use lib.ListN.{length, getD, drop}
 use borrow.Author.Tests.{eq-eqb, ne-eqb}
 use Rattle.documents.specs.Terms.{Sort, Tm, Var, Sym, Meta, Abst, Nil, Cons, Term}
 use Rattle.documents.specs.Tables.{nodes, depth}
+use Rattle.documents.proofs.Nodes.{nodes-positive}
+use Rattle.instructions.specs.Bodies.{Readable, placeBehind}
+use Rattle.instructions.proofs.Bodies.{behind-low}
 use Rattle.trees.specs.Trees.{nodesOf, depthOf, reachOf, spreadNodes, spreadDepth, spreadReach}
 use Rattle.links.specs.Links.{capped}
-use Rattle.links.specs.Bodies.{Readable, placeBehind}
 use Rattle.links.specs.Standing.{entryPlace, entryAt, held}
 use Rattle.links.specs.Sequences.{Bodied, keysAt, treesAt}
 use Rattle.links.proofs.Entered.{entered}
-use Rattle.links.proofs.Keyed.{bodied-readable, behind-low}
-use Rattle.documents.proofs.Nodes.{nodes-positive}
+use Rattle.links.proofs.Keyed.{bodied-readable}
 use Rattle.measurer.specs.declared.Span.{Span}
 use Rattle.measurer.specs.declared.Span.the-variants as span
 use Rattle.measurer.specs.Linking.{placeNext, forgotten}
@@ -56,9 +57,6 @@ module _ {code : List ℕ} {at : ℕ} {subject entries work : List ℕ} {most : 
 
   abbrev a : Term
   a = entryAt subject entries e
-
-  pub entry-in : getD code (at + 1) 0 < length entries
-  entry-in = pu .entry
 
   pub first-low : entryPlace entries e + 2 ≤ length subject
   first-low = let k = entered (pu .scene) e (pu .entry) in let w = k .within in let n = nodes-positive a in omega arith

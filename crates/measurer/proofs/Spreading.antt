@@ -1,33 +1,36 @@
 -- The walk of an entry: what was added up over the nodes that were passed, and what those still to come add.
 use mathlib.Core.Path.{_≡_, refl, sym, ap, ap₂, _∙_}
 use Prim.Native.Nat.{ℕ, zero, suc, _+_, _-_, _*_, _/_, _≤_, _<_, max}
+use native.Mathlib.Nat.{max-le}
 use native.Mathlib.Omega.{arith}
 use mathlib.Core.Bool.{Bool, true, false, _&&_, not, cond}
 use mathlib.Core.Option.{Option, none, some}
 use mathlib.Core.List.{List}
-use lib.Dec.{ltb, leb, eqb}
+use lib.Dec.{ltb, eqb}
 use lib.ListN.{length, getD, set, drop, length-drop}
 use lib.Seq.{getD-drop}
-use borrow.Author.Tests.{ltb-true, ltb-false, leb-true, ne-eqb}
+use borrow.Author.Tests.{ltb-true, ltb-false, ne-eqb}
 use Rattle.documents.specs.Terms.{Term}
 use Rattle.documents.specs.Tables.{nodes}
-use Rattle.documents.proofs.Lists.{never, on, T-of, of-and}
+use Rattle.documents.proofs.Lists.{never}
 use Rattle.tables.specs.Parts.{front}
 use Rattle.tables.proofs.Walks.{Walking, walking-from, walking-on, walking-ended}
+use Rattle.instructions.specs.Bodies.{keyPlace, placeBehind}
+use Rattle.instructions.proofs.Bodies.{behind-low}
 use Rattle.trees.specs.Trees.{Pushed, orOne, orMoved, spreadNodes, spreadDepth, spreadReach}
 use Rattle.trees.proofs.Sizes.{depth-positive-of}
 use Rattle.links.specs.Links.{capped}
-use Rattle.links.specs.Bodies.{keyPlace, placeBehind}
 use Rattle.links.specs.Nodewise.{isFree, total, levelsIn, insideOf, nodeNodes, nodeDepth, nodeReach, nodeSeen, seenAt}
 use Rattle.links.specs.Standing.{entryPlace, entryAt, Scene, Seen, held, Stands}
 use Rattle.links.specs.Sequences.{keysAt, treesAt}
+use Rattle.links.proofs.Variables.{free-low}
 use Rattle.links.proofs.Entered.{Entered, entered}
 use Rattle.links.proofs.Spread.{cappedIn, total-none, total-on, capped-spread, spread-nodes, spread-depth, spread-reach, Passes, seen-all, PlaceOf, place-of, places-within}
+use Rattle.links.proofs.Keyed.{key-at}
 use Rattle.measurer.specs.declared.Span.the-variants as span
 use Rattle.measurer.specs.Measuring.{Kept, near, Memos, pushEnd, nodesFor, depthFor, reachFor, Spreading, Spreads, Free, Meets}
 use Rattle.measurer.proofs.Kept.{kept-none, kept-then, kept-set, set-here, scene-kept}
 use Rattle.measurer.proofs.Memos.{memos-same, memos-stand}
-use Rattle.links.proofs.Keyed.{key-at, behind-low}
 
 capped-one : (o : Option ℕ) → capped (orOne o) ≡ orOne (cappedIn o)
 capped-one none = refl
@@ -48,12 +51,6 @@ higher-both b k x d h = rw (higher-deeper k x) (omega arith)
 -- a node's number goes from those still to come to those that were passed
 greatest-on : {t g x′ y total : ℕ} (t′ x : ℕ) → t ≡ max g t′ → g ≡ y → x′ ≡ max x y → max x t ≡ total → max x′ t′ ≡ total
 greatest-on t′ x et eg ex e = omega arith
-
-free-of : (w n : ℕ) → isFree w n ≡ true → (w < 65536) × (n ≤ w)
-unfolding isFree
-free-of w n e =
-    let t = of-and (ltb w 65536) (leb n w) (T-of (ltb w 65536 && leb n w) e) in
-    (ltb-true w 65536 (on (ltb w 65536) (t .0)), leb-true n w (on (leb n w) (t .1)))
 
 test-of : {A : Type 0} (q : Bool) (x y : A) (p : Bool) → q ≡ p → cond q x y ≡ cond p x y
 test-of q x y p e = rw e
@@ -269,7 +266,7 @@ module _ {code : List ℕ} {push c D : ℕ} {part : List ℕ} {places : ℕ} {su
 
       pub span-free : Free code push c D w (insideOf r h) subject entries work most
       span-free =
-          let f = free-of w (insideOf r h) yes in
+          let f = free-low w (insideOf r h) yes in
           record {
             scene = s .scene;
             few = sp .few;
@@ -316,7 +313,7 @@ module _ {code : List ℕ} {push c D : ℕ} {part : List ℕ} {places : ℕ} {su
                 (ap₂ (λ (x z : ℕ). max x (z / 256 + 1)) ed ek ∙ higher-both deepest highest (h - r) d (m .some-depth)) (s .deep);
             low = low-on ek;
             reach = greatest-on _ _ t3 (n3 ∙ sym (m .reach)) ef (s .reach);
-            close = rw ef (both far f _ (s .close) (m .close));
+            close = rw ef (max-le (s .close) (m .close));
             memos = m .memos;
             kept = kept-then (s .kept) k (omega arith) (omega arith) (omega arith) (omega arith);
             scene = scene-kept k (s .scene);
@@ -325,9 +322,6 @@ module _ {code : List ℕ} {push c D : ℕ} {part : List ℕ} {places : ℕ} {su
         where
           sizes-met : (t t′ g total m′ : ℕ) → t ≡ g + t′ → g ≡ n → 1 ≤ n → m′ ≡ more + (n - 1) → node + more + t ≡ total → node + 1 + m′ + t′ ≡ total
           sizes-met t t′ g total m′ a b c e z = omega arith
-
-          both : (x y m : ℕ) → x ≤ m → y ≤ m → max x y ≤ m
-          both x y m a b = omega arith
 
           here : (i : ℕ) → i ≡ node → isSeen work′ (getD part (2 * i) 0 - insideOf r (getD hs i 0)) ≡ true
           here i e =

@@ -1,6 +1,7 @@
 -- A stack of trees that stand, the newest first, each one's link naming the root of the one below it.
-use mathlib.Core.Path.{_≡_, refl, sym, ap, ap₂, _∙_}
-use Prim.Native.Nat.{ℕ, zero, suc, _-_, _≤_, _<_, max}
+use mathlib.Core.Path.{_≡_, refl, ap, _∙_}
+use Prim.Native.Nat.{ℕ, zero, suc, _≤_, _<_, max}
+use native.Mathlib.Nat.{max-comm}
 use native.Mathlib.Omega.{arith}
 use native.Mathlib.Nat.{le-of-suc-le-suc, not-suc-le-zero}
 use mathlib.Core.List.{List, [], _∷_}
@@ -9,22 +10,13 @@ use Rattle.documents.specs.Terms.{one, many}
 use Rattle.trees.specs.Trees.{Tree, Cell, Block, Bound, Whole, Pushed, More, count, taken, left, greatest, depthOf}
 use Rattle.links.specs.Links.{beforeIn, depthIn, capped}
 use Rattle.links.specs.Standing.{entryAt, back, root, last, Stands}
+use Rattle.links.proofs.Spread.{capped-both}
 use Rattle.measurer.specs.Linking.{deepestBack}
 use Rattle.measurer.proofs.Linking.{max-assoc}
 use Rattle.measurer.proofs.Standing.{stands-kept, root-in}
 
-capped-max : (x y : ℕ) → capped (max x y) ≡ max (capped x) (capped y)
-capped-max x y = omega arith
-
-capped-twice : (x : ℕ) → capped (capped x) ≡ capped x
-capped-twice x = omega arith
-
-max-comm : (x y : ℕ) → max x y ≡ max y x
-max-comm x y = omega arith
-
 capped-more : (m d dp g : ℕ) → capped m ≡ capped g → d ≡ capped dp → capped (max m d) ≡ capped (max dp g)
-capped-more m d dp g e f =
-    capped-max m d ∙ ap₂ max e (ap capped f ∙ capped-twice dp) ∙ max-comm (capped g) (capped dp) ∙ sym (capped-max dp g)
+capped-more m d dp g e f = capped-both m d g dp e (omega arith) ∙ ap capped (max-comm g dp)
 
 module _ (code subject entries places : List ℕ) where
   abbrev pub Stack : ℕ → ℕ → List ℕ → List (Tree one) → ℕ → Type 0

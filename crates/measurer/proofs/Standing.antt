@@ -1,7 +1,7 @@
 -- A tree stands as long as the words between its bounds are as they were, and within wider bounds too.
 use mathlib.Core.Path.{_≡_, refl, ap, _∙_, fun-ext}
 use mathlib.Core.Logic.{_⊎_, inl, inr}
-use Prim.Native.Nat.{ℕ, zero, suc, _+_, _-_, _/_, _≤_, _<_}
+use Prim.Native.Nat.{ℕ, zero, suc, _+_, _/_, _≤_, _<_}
 use native.Mathlib.Omega.{arith}
 use mathlib.Core.Bool.{Bool, true, false, _&&_, cond}
 use mathlib.Core.Option.{Option, none, some}
@@ -11,9 +11,9 @@ use lib.ListN.{getD, drop}
 use Rattle.documents.specs.Terms.{Sort, one, many}
 use Rattle.documents.specs.Tables.{nodes}
 use Rattle.documents.proofs.Lists.{never}
+use Rattle.instructions.specs.Bodies.{bodyEnd, keyPlace}
 use Rattle.trees.specs.Trees.{Tree, Cell, Block, Bound, Whole, Pushed, Leaf, More, count, nodesOf, reachOf}
 use Rattle.links.specs.Links.{beforeIn, overIn, noteOf}
-use Rattle.links.specs.Bodies.{bodyEnd, keyPlace}
 use Rattle.links.specs.Nodewise.{total, seenAt, nodeSeen}
 use Rattle.links.specs.Standing.{entryPlace, entryAt, back, Spot, root, last, held, Rooted, Named, Seen, Stands}
 
@@ -21,9 +21,6 @@ module _ (code subject entries places work work′ : List ℕ) (lo hi lo′ hi�
     (agree : (i : ℕ) → lo ≤ i → i < hi → getD work′ i 0 ≡ getD work i 0) (wide : lo′ ≤ lo) (far : hi ≤ hi′) where
   abbrev Here : {s : Sort} → Tree s → Spot s → Type 0
   Here p s = Stands code subject entries places lo hi work p s
-
-  abbrev There : {s : Sort} → Tree s → Spot s → Type 0
-  There p s = Stands code subject entries places lo′ hi′ work′ p s
 
   rooted-kept : {z op : ℕ} {p : Tree one} → Rooted code subject entries places lo hi work z op p → Rooted code subject entries places lo′ hi′ work′ z op p
   rooted-kept {z} {op} {p} r =

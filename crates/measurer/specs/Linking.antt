@@ -5,8 +5,8 @@ use mathlib.Core.List.{List}
 use lib.Dec.{eqb}
 use lib.ListN.{getD, set}
 use Rattle.documents.specs.Instructions.{opADBMAL, opPUSHVAR, opPUSHIMM}
+use Rattle.instructions.specs.Bodies.{bodyEnd, placeBehind}
 use Rattle.links.specs.Links.{linkOf, beforeIn, depthIn, capped}
-use Rattle.links.specs.Bodies.{bodyEnd, placeBehind}
 use Rattle.links.specs.Standing.{back}
 
 -- the depth of the deepest of n trees, the root of the last at z

@@ -11,9 +11,9 @@ use lib.ListN.{length, getD, drop}
 use Rattle.documents.specs.Lists.{assoc, pairlists}
 use Rattle.documents.specs.Terms.{one}
 use Rattle.documents.specs.Instructions.{opPUSHIMM, opPUSHI}
+use Rattle.instructions.specs.Bodies.{bodyEnd, keyPlace, placeBehind}
 use Rattle.trees.specs.Trees.{Tree, Whole, Pushed, orOne, orMoved, spreadNodes, spreadDepth, spreadReach, nodesOf, depthOf, reachOf}
 use Rattle.links.specs.Links.{capped, noteOf}
-use Rattle.links.specs.Bodies.{bodyEnd, keyPlace, placeBehind}
 use Rattle.links.specs.Nodewise.{seenAt}
 use Rattle.links.specs.Standing.{entryPlace, entryAt, Scene, root, held, Named, Seen, Stands}
 use Rattle.links.specs.Sequences.{treeAt, Sequenced, Bodied, keysAt, treesAt}

@@ -5,11 +5,11 @@ use documents::op::LAMBDA;
 use documents::op::PUSHIMM;
 use documents::op::PUSHVAR;
 use documents::op::fixed_words;
+use instructions::body::Found;
+use instructions::body::behind;
+use instructions::body::find;
 use links::LEVEL;
 use links::NODES_AT;
-use links::find::Found;
-use links::find::behind;
-use links::find::find;
 use links::link::before;
 use links::link::depth;
 use links::link::link;
@@ -22,9 +22,9 @@ use tables::compare::D_SHIFT;
 ghost use mathlib.Core.Path.{_≡_};
 ghost use Prim.Native.Nat.{_+_, _-_, _<_, _≤_, max};
 ghost use lib.ListN.{length, getD, set};
+ghost use Rattle.instructions.specs.Bodies.{Readable};
 ghost use Rattle.trees.specs.Trees.{further};
 ghost use Rattle.links.specs.Links.{capped};
-ghost use Rattle.links.specs.Bodies.{Readable};
 ghost use Rattle.measurer.specs.Linking.{overLink, plainLink, placeNext, forgotten};
 ghost use Rattle.measurer.specs.Measuring.{Sequence, Measures, Push, Pushes, Spreading, Spreads, Free, Frees};
 
@@ -224,6 +224,9 @@ fn forget(code: &[u32], bodies: usize, count: u32, work: &mut [u32])
 }
 
 // The walk of an entry: each node counts one, and a variable with a body as much as that. Leaves the entry's end.
+//
+// A place is a depth times LEVEL, and abstractions below that: the highest place has the greatest depth, so that one division does for all nodes. What
+// is deeper through bodies is kept apart.
 fn spread(
     code: &[u32],
     push: usize,
@@ -243,8 +246,6 @@ fn spread(
     let mut owed: usize = 1;
     let mut node: usize = 0;
     let mut more: usize = 0;
-    // A place is a depth times LEVEL, and abstractions below that: the highest place has the greatest depth, so that one division does for all nodes.
-    // What is deeper through bodies is kept apart.
     let mut highest: u32 = 0;
     let mut deepest: u32 = 0;
     let mut farthest: u32 = 0;
@@ -278,11 +279,8 @@ fn spread(
         }
     }
     work[push + 1] = (2 * (places - NODES_AT + node)) as u32;
-    Span::Of(
-        node + more,
-        cap(greater(deepest, highest / LEVEL + 1)),
-        farthest,
-    )
+    let all = node + more;
+    Span::Of(all, cap(greater(deepest, highest / LEVEL + 1)), farthest)
 }
 
 // A variable that is free in an entry, under so many abstractions of it. A body is measured where it is first met.

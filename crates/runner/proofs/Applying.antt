@@ -1,6 +1,6 @@
 -- Before the build part: the refusals that are due, and what the check, the survey and the match part leave to the rest.
 use mathlib.Core.Path.{_≡_, refl, sym, ap, _∙_}
-use Prim.Native.Nat.{ℕ, _+_, _-_, _≤_}
+use Prim.Native.Nat.{ℕ, _-_, _≤_}
 use native.Mathlib.Omega.{arith}
 use mathlib.Core.Bool.{true}
 use mathlib.Core.List.{List, [], _++_, append-nil}

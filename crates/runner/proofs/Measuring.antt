@@ -19,7 +19,7 @@ use Rattle.writer.specs.Written.{Writes, Room, nstack}
 use Rattle.writer.specs.Wanted.{Ready, TreeAt}
 use Rattle.writer.proofs.Calling.{ready-whole, room-whole, whole-written}
 use Rattle.runner.specs.declared.Ran.the-variants as ran
-use Rattle.runner.specs.Answers.{given, Applied, Building}
+use Rattle.runner.specs.Answers.{Applied, Building}
 use Rattle.runner.proofs.Answering.{run-makes, made-large, made-deep, made-far, made-fits}
 use Rattle.runner.proofs.Readied.{readied, scene-of, sequence, safe, term, goes, told}
 

@@ -2,20 +2,20 @@
 use mathlib.Core.Path.{_≡_, refl, sym, ap, _∙_, fun-ext}
 use Prim.Native.Nat.{ℕ, zero, suc, _-_, _*_, _≤_, _<_}
 use native.Mathlib.Omega.{arith}
-use mathlib.Core.Bool.{Bool, false, _&&_, cond}
-use mathlib.Core.Option.{some}
+use mathlib.Core.Bool.{false, _&&_, cond}
+use mathlib.Core.Option.{some, Option·some-injective}
 use mathlib.Core.List.{List, [], _∷_}
 use lib.Dec.{T, leb, ltb}
 use lib.ListN.{length, getD, take, drop}
 use lib.Seq.{length-take-le, getD-take}
-use borrow.Author.Tests.{leb-true, ltb-true}
+use borrow.Author.Tests.{leb-true, ltb-true, ltb-false}
 use Rattle.documents.specs.Limits.{planLimit, codeLimit}
 use Rattle.documents.specs.Terms.{one, Var, Term}
 use Rattle.documents.specs.Tables.{Fits, nodes, subterm}
 use Rattle.documents.specs.Instructions.{IS, ISABST, NEXT, CHECK, SET, EQVAR, EQIMM, EQI, CELL, LAMBDA, ADBMAL, PUSHVAR, PUSHIMM, PUSHI, End, _▸_, Program, programFrom, programIn}
 use Rattle.documents.specs.Machine.{Entry, entry, state, done, run}
 use Rattle.documents.specs.Passing.{Slot, oneTerm, build, andThenHolds, obeys}
-use Rattle.documents.proofs.Lists.{case, on, T-of, of-and}
+use Rattle.documents.proofs.Lists.{case, on, off, T-of, of-and}
 use Rattle.documents.proofs.Numbers.{Held, subjectIn-held}
 use Rattle.documents.proofs.Tables.{length-tableOf}
 use Rattle.tables.specs.Parts.{front}
@@ -25,11 +25,12 @@ use Rattle.safety.proofs.Entries.{entries-length}
 use Rattle.safety.proofs.NeverStuck.{passing-obeys}
 use Rattle.trees.specs.Trees.{Tree, topOf, grown, entryOf}
 use Rattle.trees.proofs.Made.{AllFit, Told, Made, made}
-use Rattle.links.specs.Standing.{entryAt, Scene, Safe}
-use Rattle.links.specs.Sequences.{treeIn, treeAt, Sequenced}
+use Rattle.links.specs.Standing.{entryPlace, entryAt, Scene, Safe}
+use Rattle.links.specs.Sequences.{treeAt, Sequenced}
 use Rattle.links.proofs.Checked.{checked-ran}
 use Rattle.links.proofs.Safe.{checked-safe}
-use Rattle.matcher.specs.Ready.{Ready, entryAt as enteredAt}
+use Rattle.links.proofs.Keyed.{tree-here}
+use Rattle.matcher.specs.Ready.{Ready}
 use Rattle.measurer.specs.Measuring.{Sequence}
 use Rattle.runner.specs.Answers.{Building}
 use Rattle.runner.proofs.Answering.{programOf}
@@ -58,11 +59,8 @@ later : (code : List ℕ) (at : ℕ) (c rest : Program) (es : List Slot) → pro
 later code zero c rest es p o h t =
     let n : length code - 0 ≡ length code = omega arith in
     let e : programAt code 0 (length code) ≡ programIn code = ap (λ (k : ℕ). programFrom code 0 k) n in
-    let z : c ≡ rest = same (sym p ∙ sym e ∙ h) in
+    let z = Option·some-injective c rest (sym p ∙ sym e ∙ h) in
     absurd (not-built es rest (rw z at o) t)
-  where
-    same : {c d : Program} → some c ≡ some d → c ≡ d
-    same e = cc
 later code (suc at) c rest es p o h t = omega arith
 
 -- ---- Entries
@@ -71,12 +69,10 @@ all-fit : (env : List Entry) → ((e : ℕ) → e < length env → Fits (entryOf
 all-fit [] f = tt
 all-fit (entry b a ∷ env) f = (f 0 (omega arith), all-fit env (λ e h. f (suc e) (omega arith)))
 
--- the matcher's table, and the part of it that holds entries
-entry-same : (subject table : List ℕ) (made : ℕ) → made ≤ length table → (e : ℕ) → enteredAt subject table made e ≡ entryAt subject (take made table) e
-entry-same subject table made h e = rw (length-take-le made table h) (case Same (ltb e made) (λ y. let k = ltb-true e made (on _ y) in rw (getD-take made table (made - 1 - e) 0 (omega arith))) (λ y. refl))
-  where
-    Same : Bool → Type 0
-    Same q = cond q (front (drop (getD table (made - 1 - e) 0) subject)) (Var 0) ≡ cond q (front (drop (getD (take made table) (made - 1 - e) 0) subject)) (Var 0)
+entry-none : (env : List Entry) (e : ℕ) → length env ≤ e → entryOf env e ≡ Var 0
+entry-none [] e h = refl
+entry-none (a ∷ env) zero h = absurd (omega arith)
+entry-none (a ∷ env) (suc e) h = entry-none env e (omega arith)
 
 module _ {code : List ℕ} {at : ℕ} {subject entries work : List ℕ} (b : Building code at subject entries work) where
   abbrev pub program : Program
@@ -91,9 +87,18 @@ module _ {code : List ℕ} {at : ℕ} {subject entries work : List ℕ} (b : Bui
   entry-count : length entries ≡ b .made
   entry-count = ap length (b .these) ∙ length-take-le (b .made) (b .table) room
 
+  -- the matcher's table, and the part of it that holds entries
+  place-same : (e : ℕ) → e < b .made → entryPlace entries e ≡ getD (b .table) (b .made - 1 - e) 0
+  place-same e h =
+      ap (λ (k : ℕ). getD entries (k - 1 - e) 0) entry-count ∙ ap (λ (l : List ℕ). getD l (b .made - 1 - e) 0) (b .these) ∙ getD-take (b .made) (b .table) (b .made - 1 - e) 0 (omega arith)
+
   -- the term of an entry of the machine's
   pub entry-is : (e : ℕ) → entryOf (readied .env) e ≡ entryAt subject entries e
-  entry-is e = readied .terms e ∙ (entry-same subject (b .table) (b .made) room e ∙ ap (λ (l : List ℕ). entryAt subject l e) (sym (b .these)))
+  entry-is e =
+      let n = entry-count in
+      case (λ q. entryOf (readied .env) e ≡ cond q (front (drop (entryPlace entries e) subject)) (Var 0)) (ltb e (length entries))
+      (λ y. let k = ltb-true e (length entries) (on _ y) in readied .terms e (omega arith) ∙ ap (λ (p : ℕ). front (drop p subject)) (sym (place-same e (omega arith))))
+      (λ y. let k = ltb-false e (length entries) (off _ y) in let c = readied .count in entry-none (readied .env) e (omega arith))
 
   held : Held planLimit subject (front subject)
   held = subjectIn-held subject (front subject) (b .begun .accepted) .0
@@ -101,13 +106,8 @@ module _ {code : List ℕ} {at : ℕ} {subject entries work : List ℕ} (b : Bui
   code-short : length code ≤ 4096
   code-short = leb-true (length code) codeLimit (on _ (of-and (leb 1 (length code)) (leb (length code) codeLimit) (of-and (leb 1 (length code) && leb (length code) codeLimit) (andThenHolds (programIn code) obeys) (T-of _ (b .begun .passed)) .0) .1))
 
-  stands-at : (e : ℕ) → e < b .made → (m : ℕ) × (getD entries (length entries - 1 - e) 0 ≡ 2 * m) × (subterm (front subject) m ≡ some (entryAt subject entries e))
-  stands-at e h =
-      let s = readied .stands e h in
-      let place : getD entries (length entries - 1 - e) 0 ≡ getD (b .table) (b .made - 1 - e) 0 =
-      ap (λ (k : ℕ). getD entries (k - 1 - e) 0) entry-count ∙ (ap (λ (l : List ℕ). getD l (b .made - 1 - e) 0) (b .these) ∙ getD-take (b .made) (b .table) (b .made - 1 - e) 0 (omega arith))
-      in
-      (s .0, place ∙ s .1, s .2 ∙ ap some (entry-is e))
+  stands-at : (e : ℕ) → e < b .made → (m : ℕ) × (entryPlace entries e ≡ 2 * m) × (subterm (front subject) m ≡ some (entryAt subject entries e))
+  stands-at e h = let s = readied .stands e h in (s .0, place-same e h ∙ s .1, s .2 ∙ ap some (entry-is e))
 
   -- what both walks rely on, also when the first has changed the working table before the places
   pub scene-of : {work′ : List ℕ} → length work′ ≡ length work → drop 4096 work′ ≡ drop 4096 work → Scene code subject entries work′
@@ -145,8 +145,7 @@ module _ {code : List ℕ} {at : ℕ} {subject entries work : List ℕ} (b : Bui
 
   -- the result's tree
   tree-is : topOf (grown (readied .rest) []) ≡ treeAt code at (length code)
-  unfolding treeAt
-  tree-is = sym (ap treeIn (readied .here))
+  tree-is = tree-here code at (length code) (readied .here)
 
   pub safe : Safe 0 (treeAt code at (length code))
   safe = rw tree-is at (checked-safe (readied .es) (readied .rest) (readied .checked))

@@ -4,7 +4,6 @@ use checker::Checked;
 use checker::check;
 use documents::Refusal;
 use instructions::limit::MOST_ENTRIES;
-use instructions::limit::MOST_WORDS;
 use links::NODES_AT;
 use links::link::depth;
 use matcher::Matched;

@@ -5,8 +5,8 @@ use mathlib.Core.Path.{_≡_, refl, sym, ap, ap₂, _∙_}
 use Prim.Native.Nat.{ℕ, zero, suc, _+_, _-_, _≤_, _<_}
 use native.Mathlib.Nat.{le-of-suc-le-suc, not-suc-le-zero}
 use native.Mathlib.Omega.{arith}
-use mathlib.Core.Bool.{Bool, true, false, not, _&&_, _||_, cond}
-use mathlib.Core.Option.{Option, none, some}
+use mathlib.Core.Bool.{Bool, true, false, not, _||_, cond}
+use mathlib.Core.Option.{Option, some}
 use mathlib.Core.List.{List, [], _∷_, _++_, map}
 use lib.Dec.{T, eqb, leb, ltb, leb→le}
 use lib.ListN.{length, length-map}
@@ -14,23 +14,24 @@ use borrow.Author.Tests.{eqb-true, leb-true, ltb-true}
 use Rattle.documents.specs.Limits.{argumentLimit, indexLimit, dShift}
 use Rattle.documents.specs.Lists.{member, need}
 use Rattle.documents.specs.Terms.{Var, Sym, Abst, Nil, Cons, Term, Terms, len, rename, subst}
-use Rattle.documents.specs.Instructions.{Piece, instruction, program, bodies, Code, IS, ISABST, NEXT, CHECK, SET, EQVAR, EQIMM, EQI, CELL, LAMBDA, ADBMAL, PUSHVAR, PUSHIMM, PUSHI, End, _▸_, None, Body, Instruction, Program, Bodies, bodyCount, keys}
+use Rattle.documents.specs.Instructions.{Piece, instruction, program, bodies, Code, IS, ISABST, NEXT, CHECK, SET, EQVAR, EQIMM, EQI, CELL, LAMBDA, ADBMAL, PUSHVAR, PUSHIMM, PUSHI, End, _▸_, None, Body, Instruction, Program, Bodies, keys}
 use Rattle.documents.specs.Machine.{Current, Entry, entry, State, state, Outcome, done, _>>=_, Action, split, pushi, exec}
 use Rattle.documents.specs.Translation.{offset, keyed}
-use Rattle.documents.specs.Passing.{openLimit, pairLimit, nestLimit, allBelow, Slot, covers, blocks, oneMore, oneTerm, build}
-use Rattle.documents.proofs.Lists.{never, on, T-of, of-and, case, needed, andThen-is}
+use Rattle.documents.specs.Passing.{openLimit, nestLimit, Slot, covers, blocks, oneMore, oneTerm, build}
+use Rattle.documents.proofs.Lists.{never, case, needed, andThen-is}
 use Rattle.documents.proofs.Substitution.{rename-ext, rename-id, subst-rename, select}
 use Rattle.documents.proofs.FreeVariables.{unders, AllFree, AllFree-map, free-both, free-subst, unders-below, unders-past, past-unders}
 use Rattle.kahrs.proofs.RightSide.{offsetOf, pushVar-is, place, covered, RunsAll, pushi-is}
 use Rattle.safety.proofs.Entries.{EntriesOk, Named, named, covered-of-covers}
+use Rattle.safety.proofs.Asked.{pushAsks, push-asked, one-term, body-asked}
 
 -- ---- Blocks: the finished terms of each open block, the innermost first, as they are before OFFSET and NSTACK rename them
 
 abbrev pub Blocks : Type 0
 Blocks = List (List Term)
 
--- NSTACK with the blocks B open
-abbrev pub opened : Blocks → List ℕ → List ℕ
+-- NSTACK with the blocks B open, whatever they hold
+abbrev pub opened : {A : Type 0} → List (List A) → List ℕ → List ℕ
 opened [] nst = nst
 opened (us ∷ B) nst = 0 ∷ opened B nst
 
@@ -40,19 +41,19 @@ laid off nst [] st = st
 laid off nst (us ∷ B) st = map (rename (offsetOf off (opened B nst))) us ++ laid off nst B st
 
 -- the LAMBDAs that are open inside of the blocks B, where l are outside of them
-abbrev pub level : Blocks → ℕ → ℕ
+abbrev pub level : {A : Type 0} → List (List A) → ℕ → ℕ
 level [] l = l
 level (us ∷ B) l = suc (level B l)
 
-length-opened : (B : Blocks) (nst : List ℕ) (l : ℕ) → length nst ≡ l → length (opened B nst) ≡ level B l
+pub length-opened : {A : Type 0} (B : List (List A)) (nst : List ℕ) (l : ℕ) → length nst ≡ l → length (opened B nst) ≡ level B l
 length-opened [] nst l e = e
 length-opened (us ∷ B) nst l e = ap suc (length-opened B nst l e)
 
-level-length : (B : Blocks) (l : ℕ) → level B l ≡ l + length B
+level-length : {A : Type 0} (B : List (List A)) (l : ℕ) → level B l ≡ l + length B
 level-length [] l = omega arith
 level-length (us ∷ B) l = let h = level-length B l in omega arith
 
-pub level-is : (l : ℕ) (us : List Term) (B : Blocks) → l + blocks (map length (us ∷ B)) ≡ level B l
+pub level-is : {A : Type 0} (l : ℕ) (us : List A) (B : List (List A)) → l + blocks (map length (us ∷ B)) ≡ level B l
 level-is l us B =
     let h = level-length B l in
     let k : length (map length B) ≡ length B = length-map B length in
@@ -118,12 +119,6 @@ programs (Body k c a) = c ∷ programs a
 pub keyed-programs : (a : Bodies) → a ≡ keyed (keys a) (programs a)
 keyed-programs None = refl
 keyed-programs (Body k c a) = ap (Body k c) (keyed-programs a)
-
-pub one-term : (o : Option (List ℕ)) → T (oneTerm o) → o ≡ some (1 ∷ [])
-one-term none t = absurd t
-one-term (some []) t = absurd t
-one-term (some (h ∷ [])) t = ap (λ (n : ℕ). some (n ∷ [])) (eqb-true h 1 (on (eqb h 1) t))
-one-term (some (h ∷ h₀ ∷ hs)) t = absurd t
 
 -- the counts after an instruction
 pub counts-are : (h k : ℕ) (l hs : List ℕ) → some (h ∷ l) ≡ some hs → h ≡ k → hs ≡ k ∷ l
@@ -261,18 +256,9 @@ module _ (Sub : ℕ → Type 0) where
       PUSHI-steps : (e D : ℕ) (a : Bodies) → Claim bodies a → Claim instruction (PUSHI e D a)
       PUSHI-steps e D a made inside l nest us B hs w f =
           let m = map length (us ∷ B) in
-          let asks : ℕ → List ℕ → Option (List ℕ) = λ b g.
-          need (eqb (D + b) (l + blocks m + dShift)) (need (leb (bodyCount a) pairLimit) (need (allBelow b (keys a)) (need (covers b g (keys a))
-          (need (build es true (l + blocks m) (nest + blocks m) a) (oneMore m))))) in
-          let r = named Sub es env e asks hs ok w in
-          let b = r .b in
-          let q₁ = needed (eqb (D + b) (l + blocks m + dShift)) _ hs (r .says) in
-          let q₂ = needed (leb (bodyCount a) pairLimit) _ hs (q₁ .1) in
-          let q₃ = needed (allBelow b (keys a)) _ hs (q₂ .1) in
-          let q₄ = needed (covers b (r .guard) (keys a)) _ hs (q₃ .1) in
-          let q₅ = needed (build es true (l + blocks m) (nest + blocks m) a) _ hs (q₄ .1) in
-          pushed (made true (l + blocks m) (nest + blocks m) (T-of _ (q₅ .0))) (level-is l us B) r
-          (eqb-true (D + b) (l + blocks m + dShift) (q₁ .0)) (T-of (covers b (r .guard) (keys a)) (q₄ .0)) (counts-are (length us + 1) _ _ hs (q₅ .1) (omega arith))
+          let r = named Sub es env e (pushAsks es l nest D a m) hs ok w in
+          let q = push-asked es l nest D a m hs (r .b) (r .guard) (r .says) in
+          pushed (made true (l + blocks m) (nest + blocks m) (q .bodies)) (level-is l us B) r (q .shift) (q .covered) (counts-are (length us + 1) _ _ hs (q .more) (omega arith))
         where
           pushed : {n : ℕ} {A : ℕ → List ℕ → Option (List ℕ)} → Made n a → n ≡ level B l → (r : Named Sub env e A hs) → D + r .b ≡ n + dShift
               → T (covers (r .b) (r .guard) (keys a)) → hs ≡ suc (length us) ∷ map length B → Step inside l (exec (PUSHI e D a)) us B hs
@@ -332,9 +318,8 @@ module _ (Sub : ℕ → Type 0) where
           steps-then i c inside l us B (q .0) hs s (builds-as-checked c inside l nest (s .top) (s .around) hs (rw (s .counted) at (q .2)) (s .good))
       builds-as-checked None = λ inside l nest t. record { terms = Nil; arity = refl; runs = tt; inside = tt }
       builds-as-checked (Body k c a) = λ inside l nest t.
-          let q = of-and (ltb nest nestLimit && oneTerm (build es true l (nest + 1) c (0 ∷ []))) (build es inside l nest a) t in
-          let p = of-and (ltb nest nestLimit) (oneTerm (build es true l (nest + 1) c (0 ∷ []))) (q .0) in
-          let m = makes true l c (builds-as-checked c true l (nest + 1) [] [] (1 ∷ []) (one-term _ (p .1)) (tt, tt)) in
+          let q = body-asked es inside l nest k c a t in
+          let m = makes true l c (builds-as-checked c true l (nest + 1) [] [] (1 ∷ []) (q .0) (tt, tt)) in
           let r = builds-as-checked a inside l nest (q .1) in
           record {
             terms = Cons (m .term) (r .terms);

@@ -17,7 +17,8 @@ use Rattle.documents.proofs.Lists.{never, case, andThen-is}
 use Rattle.documents.proofs.FreeVariables.{free-all}
 use Rattle.kahrs.proofs.RightSide.{offsetOf}
 use Rattle.safety.proofs.Entries.{entries-length}
-use Rattle.safety.proofs.Building.{Blocks, laid, opened, one-term, builds-as-checked}
+use Rattle.safety.proofs.Asked.{one-term}
+use Rattle.safety.proofs.Building.{Blocks, laid, opened, builds-as-checked}
 use Rattle.safety.proofs.Matching.{currents-length, Agrees, agrees-at-start, matches-as-checked, goes-then}
 use Rattle.safety.proofs.NeverStuck.{holds-then}
 

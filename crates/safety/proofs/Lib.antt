@@ -1,4 +1,5 @@
 pub mod Entries
+pub mod Asked
 pub mod Building
 pub mod Matching
 pub mod NeverStuck

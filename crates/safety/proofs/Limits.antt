@@ -3,24 +3,21 @@
 use mathlib.Core.Path.{_≡_}
 use Prim.Native.Nat.{ℕ, zero, suc, _+_, _-_, _≤_}
 use native.Mathlib.Omega.{arith}
-use mathlib.Core.Bool.{Bool, true, false, not, cond}
-use mathlib.Core.Option.{Option, none, some}
+use mathlib.Core.Bool.{Bool, false, not, cond}
+use mathlib.Core.Option.{some}
 use mathlib.Core.List.{List, [], _∷_}
 use lib.Dec.{eqb, leb, ltb}
 use lib.ListN.{length, getElem?}
 use borrow.Author.Tests.{leb-true, ltb-true}
 use Rattle.documents.specs.Limits.{argumentLimit, indexLimit, dShift}
 use Rattle.documents.specs.Lists.{andThen}
-use Rattle.documents.specs.Instructions.{IS, ISABST, NEXT, CHECK, SET, EQVAR, EQIMM, EQI, CELL, LAMBDA, ADBMAL, PUSHVAR, PUSHIMM, PUSHI, End, _▸_, Instruction, Program, bodyCount, keys}
+use Rattle.documents.specs.Instructions.{IS, ISABST, NEXT, CHECK, SET, EQVAR, EQIMM, EQI, CELL, LAMBDA, ADBMAL, PUSHVAR, PUSHIMM, PUSHI, End, _▸_, Instruction, Program}
 use Rattle.documents.specs.Machine.{firsts, first}
-use Rattle.documents.specs.Passing.{currentLimit, openLimit, entryLimit, checkLimit, pairLimit, nestLimit, Slot, slot, withSlot, covers, seconds, allBelow, Matching, matching, matchTop, matchStep, blocks, oneMore, takeMany, shut, build, isMatch}
+use Rattle.documents.specs.Passing.{currentLimit, openLimit, entryLimit, checkLimit, pairLimit, nestLimit, Slot, covers, seconds, allBelow, Matching, matching, matchTop, matchStep, blocks, oneMore, takeMany, shut, build, isMatch}
 use Rattle.documents.proofs.Lists.{never, case, needed, andThen-is}
 use Rattle.documents.proofs.Passing.{length-times}
+use Rattle.safety.proofs.Asked.{slot-there, push-asked}
 use Rattle.safety.proofs.Counts.{Progress, inMatch, currentCount, entryCount, builtAfter, progress, beginning}
-
-pub slot-there : {A : Type 0} (o : Option Slot) (f : ℕ → List ℕ → Option A) (r : A) → withSlot o f ≡ some r → (b : ℕ) × (g : List ℕ) × (f b g ≡ some r)
-slot-there none f r e = never (cc)
-slot-there (some (slot b g)) f r e = (b, g, e)
 
 -- ---- The match part
 
@@ -139,10 +136,7 @@ step-nested es inside l nest (PUSHIMM n) hs ks e h =
     more-nested l nest hs ks (needed (eqb (l + blocks hs) (r .0)) _ ks (r .2) .1) h
 step-nested es inside l nest (PUSHI n D a) hs ks e h =
     let r = slot-there (getElem? es n) _ ks e in
-    let b = r .0 in
-    more-nested l nest hs ks
-    (needed (build es true (l + blocks hs) (nest + blocks hs) a) _ ks (needed (covers b (r .1) (keys a)) _ ks (needed (allBelow b (keys a)) _ ks
-    (needed (leb (bodyCount a) pairLimit) _ ks (needed (eqb (D + b) (l + blocks hs + dShift)) _ ks (r .2) .1) .1) .1) .1) .1) h
+    more-nested l nest hs ks (push-asked es l nest D a hs ks (r .0) (r .1) (r .2) .more) h
 
 -- at most 63 open LAMBDAs, and 64 blocks and bodies, wherever that was so to begin with
 pub build-nested : (es : List Slot) (inside : Bool) (l nest : ℕ) (c : Program) (hs ks : List ℕ) → build es inside l nest c hs ≡ some ks

@@ -1,18 +1,16 @@
--- Laws of the table of places: how long it is, that the part of it at a subterm's node is that subterm's own, and how large its words are.
+-- Laws of the table of places: how long it is, and that the part of it at a subterm's node is that subterm's own.
 use mathlib.Core.Path.{_≡_, refl, sym, ap, _∙_}
-use Prim.Native.Nat.{ℕ, zero, suc, _+_, _-_, _/_, _%_, _≤_, _<_, max}
+use Prim.Native.Nat.{ℕ, zero, suc, _+_, _-_, _≤_, max}
 use native.Mathlib.Omega.{arith}
-use mathlib.Core.Bool.{Bool, true, false, _&&_, cond}
+use mathlib.Core.Bool.{Bool, true, false, cond}
 use mathlib.Core.Option.{some}
 use mathlib.Core.List.{List, [], _∷_, _++_, append-assoc, append-nil}
-use lib.Dec.{leb, ltb}
-use lib.ListN.{length, take, drop, getD, length-append}
-use lib.Seq.{take-at, drop-at, getD-at}
-use borrow.Author.Tests.{ltb-false, le-leb, lt-ltb, leb-true, ltb-true}
-use Rattle.documents.specs.Lists.{every}
+use lib.Dec.{ltb}
+use lib.ListN.{length, length-append}
+use borrow.Author.Tests.{ltb-false}
 use Rattle.documents.specs.Terms.{Sort, Tm, Var, Sym, Meta, Abst, Nil, Cons, Term}
 use Rattle.documents.specs.Tables.{nodes, depth, subterm}
-use Rattle.documents.proofs.Lists.{never, on, T-of, of-and, every-append}
+use Rattle.documents.proofs.Lists.{never}
 use Rattle.survey.specs.Places.{place, placesOf}
 
 pub length-places : {s : Sort} (d n : ℕ) (t : Tm s) → length (placesOf d n t) ≡ nodes t
@@ -25,14 +23,6 @@ length-places d n (Cons t ts) =
     let h = length-places d n t in
     let k = length-places d n ts in
     rw (length-append (placesOf d n t) (placesOf d n ts)) (omega arith)
-
--- ---- A word
-
-pub place-div : (d n : ℕ) → n < 256 → place d n / 256 ≡ d
-place-div d n h = omega arith
-
-pub place-mod : (d n : ℕ) → n < 256 → place d n % 256 ≡ n
-place-mod d n h = omega arith
 
 -- ---- The part at a node
 
@@ -131,79 +121,9 @@ placed d n (Cons t ts) m u e = go (ltb m (nodes t)) refl (placed d n t m u) (pla
     go true q f g e = first-placed (placesOf d n ts) (depth ts) (f e)
     go false q f g e = later-placed (nodes t) m (placesOf d n t) (depth t) (length-places d n t) (ltb-false m (nodes t) q) (g e)
 
--- The part of the table at a subterm's node: the subterm's own places, from its root's on.
-pub record PlacesPart (ws : List ℕ) (m : ℕ) (u : Term) (d₀ n₀ deep : ℕ) : Type 0 where
-  pub d : ℕ
-  pub k : ℕ
-  pub part : take (nodes u) (drop m ws) ≡ placesOf d k u
-  -- the node's own word
-  pub here : getD ws m 0 ≡ place d k
-  pub lower : d₀ ≤ d
-  pub under : n₀ ≤ k
-  pub apart : k + d₀ ≤ d + n₀
-  pub deeper : d + depth u ≤ d₀ + deep
-  -- it is in the table
-  pub inside : m + nodes u ≤ length ws
-
 -- a term's own place comes first
 pub places-root : (d n : ℕ) (t : Term) → (l : List ℕ) × (placesOf d n t ≡ place d n ∷ l)
 places-root d n (Var x) = (_, refl)
 places-root d n (Sym s ts) = (_, refl)
 places-root d n (Meta z ts) = (_, refl)
 places-root d n (Abst t) = (_, refl)
-
-pub places-part : {s : Sort} (d₀ n₀ : ℕ) (t : Tm s) (m : ℕ) (u : Term) → subterm t m ≡ some u → PlacesPart (placesOf d₀ n₀ t) m u d₀ n₀ (depth t)
-places-part d₀ n₀ t m u e =
-    let p = placed d₀ n₀ t m u e in
-    let l = length-places (p .d) (p .k) u in
-    let r = places-root (p .d) (p .k) u in
-    let w : placesOf d₀ n₀ t ≡ p .before ++ (place (p .d) (p .k) ∷ (r .0 ++ p .behind)) = p .whole ∙ ap (λ (x : List ℕ). p .before ++ (x ++ p .behind)) (r .1) in
-    record {
-      d = p .d;
-      k = p .k;
-      part = rw (p .whole, drop-at (p .before) (placesOf (p .d) (p .k) u ++ p .behind) m (p .start)) (take-at (placesOf (p .d) (p .k) u) (p .behind) (nodes u) l);
-      here = rw w (getD-at (p .before) (place (p .d) (p .k)) (r .0 ++ p .behind) 0 m (p .start));
-      lower = p .lower;
-      under = p .under;
-      apart = p .apart;
-      deeper = p .deeper;
-      inside =
-          let s = p .start in
-          let a = length-append (p .before) (placesOf (p .d) (p .k) u ++ p .behind) in
-          let b = length-append (placesOf (p .d) (p .k) u) (p .behind) in
-          let q = ap (λ (x : List ℕ). length x) (p .whole) in
-          omega arith;
-    }
-
--- ---- An accepted subject's words
-
--- depth at most 64, abstractions below 64
-abbrev pub isPlace : ℕ → Bool
-isPlace w = leb (w / 256) 64 && ltb (w % 256) 64
-
-place-is : (d n : ℕ) → d ≤ 64 → n < d → isPlace (place d n) ≡ true
-place-is d n h k = rw (le-leb (place d n / 256) 64 (omega arith), lt-ltb (place d n % 256) 64 (omega arith)) refl
-
-places-small : {s : Sort} (d n : ℕ) (t : Tm s) → n < d → d + depth t ≤ 65 → every isPlace (placesOf d n t) ≡ true
-places-small d n (Var x) h k = rw (place-is d n (omega arith) h) refl
-places-small d n (Sym s ts) h k = rw (place-is d n (omega arith) h) (places-small (suc d) n ts (omega arith) (omega arith))
-places-small d n (Meta z ts) h k = rw (place-is d n (omega arith) h) (places-small (suc d) n ts (omega arith) (omega arith))
-places-small d n (Abst t) h k = rw (place-is d n (omega arith) h) (places-small (suc d) (suc n) t (omega arith) (omega arith))
-places-small d n Nil h k = refl
-places-small d n (Cons t ts) h k =
-    rw (every-append isPlace (placesOf d n t) (placesOf d n ts), places-small d n t h (omega arith)) (places-small d n ts h (omega arith))
-
-pub below-64 : (t : Term) → depth t ≤ 64 → every isPlace (placesOf 1 0 t) ≡ true
-below-64 t h = places-small 1 0 t (omega arith) (omega arith)
-
--- one of them
-pub place-below-64 : (t : Term) (m : ℕ) → depth t ≤ 64 → m < nodes t → (getD (placesOf 1 0 t) m 0 / 256 ≤ 64) × (getD (placesOf 1 0 t) m 0 % 256 < 64)
-place-below-64 t m h k = go (placesOf 1 0 t) m (below-64 t h) (rw (length-places 1 0 t) k)
-  where
-    go : (ws : List ℕ) (m : ℕ) → every isPlace ws ≡ true → m < length ws → (getD ws m 0 / 256 ≤ 64) × (getD ws m 0 % 256 < 64)
-    go [] m e k = absurd (omega arith)
-    go (w ∷ ws) zero e k =
-        let a = of-and (isPlace w) (every isPlace ws) (T-of _ e) .0 in
-        let b = of-and (leb (w / 256) 64) (ltb (w % 256) 64) a in
-        (leb-true (w / 256) 64 (on _ (b .0)), ltb-true (w % 256) 64 (on _ (b .1)))
-    go (w ∷ ws) (suc m) e k = go ws m (on _ (of-and (isPlace w) (every isPlace ws) (T-of _ e) .1)) (omega arith)

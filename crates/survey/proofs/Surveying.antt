@@ -13,7 +13,7 @@ use lib.Seq.{length-take-le, getD-set-same, take-suc-set}
 use borrow.Author.Tests.{leb-true, leb-false, le-leb, lt-leb, lt-ltb, le-ltb, ltb-true, ltb-false, eqb-true, eqb-false, eq-eqb, ne-eqb}
 use Rattle.documents.specs.Limits.{planLimit}
 use Rattle.documents.specs.Lists.{isEmpty}
-use Rattle.documents.specs.Terms.{many, Nil, Cons, Term, Terms}
+use Rattle.documents.specs.Terms.{Nil, Cons, Term, Terms}
 use Rattle.documents.specs.Tables.{termsIn, depth}
 use Rattle.documents.specs.Rules.{metas}
 use Rattle.documents.specs.Numbers.{tableIn, subjectIn}
@@ -370,9 +370,6 @@ module _ {subject places : List ℕ} {node here : ℕ} {ws : List ℕ} (s : Stan
 
   node-opened : Opened (word / 65536) (word % 65536) count (held (drop (2 * node) subject)) (held (drop (2 * node + 2) subject))
   node-opened = opened subject (2 * node) (s .walk .begins) some-owed .1
-
-  pub few-arguments : getD subject (2 * node + 1) 0 ≤ 8
-  few-arguments = node-opened .narrow
 
   next : 2 * (node + 1) ≡ 2 * node + 2
   next = omega arith

@@ -5,25 +5,26 @@ use mathlib.Core.Path.{_≡_, refl, sym, ap, ap₂, _∙_}
 use Prim.Native.Nat.{ℕ, zero, suc, _+_, _-_, _≤_, _<_}
 use native.Mathlib.Nat.{le-of-suc-le-suc, not-suc-le-zero}
 use native.Mathlib.Omega.{arith}
-use mathlib.Core.Bool.{Bool, true, false, not, _&&_}
+use mathlib.Core.Bool.{Bool, true, false, not}
 use mathlib.Core.Option.{Option, some}
 use mathlib.Core.List.{List, [], _∷_, _++_, map}
 use lib.Dec.{T, eqb, leb, ltb}
-use lib.ListN.{length, getElem?, length-map}
+use lib.ListN.{length, getElem?}
 use borrow.Author.Tests.{eqb-true, leb-true, ltb-true}
 use Rattle.documents.specs.Limits.{argumentLimit, indexLimit, dShift}
 use Rattle.documents.specs.Lists.{need}
 use Rattle.documents.specs.Terms.{one, many, Abst, Term, Terms, len, rename, subst}
-use Rattle.documents.specs.Instructions.{Piece, instruction, program, bodies, Code, IS, ISABST, NEXT, CHECK, SET, EQVAR, EQIMM, EQI, CELL, LAMBDA, ADBMAL, PUSHVAR, PUSHIMM, PUSHI, End, _▸_, None, Body, Instruction, Program, Bodies, bodyCount, keys}
+use Rattle.documents.specs.Instructions.{Piece, instruction, program, bodies, Code, IS, ISABST, NEXT, CHECK, SET, EQVAR, EQIMM, EQI, CELL, LAMBDA, ADBMAL, PUSHVAR, PUSHIMM, PUSHI, End, _▸_, None, Body, Instruction, Program, Bodies, keys}
 use Rattle.documents.specs.Machine.{Current, Entry, entry, State, state, Outcome, done, _>>=_, Action, split, pushi, exec}
 use Rattle.documents.specs.Translation.{offset}
-use Rattle.documents.specs.Passing.{openLimit, pairLimit, nestLimit, allBelow, Slot, covers, blocks, oneMore, oneTerm, build}
-use Rattle.documents.proofs.Lists.{never, T-of, of-and, needed, andThen-is}
+use Rattle.documents.specs.Passing.{openLimit, nestLimit, Slot, covers, blocks, oneMore, oneTerm, build}
+use Rattle.documents.proofs.Lists.{never, T-of, needed, andThen-is}
 use Rattle.documents.proofs.Substitution.{rename-ext, rename-id, subst-rename, subst-ext, select}
 use Rattle.documents.proofs.FreeVariables.{AllFree, AllFree-map}
 use Rattle.kahrs.proofs.RightSide.{offsetOf, pushVar-is, place, covered, RunsAll, pushi-is}
 use Rattle.safety.proofs.Entries.{EntriesOk, Named, named, covered-of-covers}
-use Rattle.safety.proofs.Building.{programs, keyed-programs, counts-are, one-term}
+use Rattle.safety.proofs.Asked.{pushAsks, push-asked, one-term, body-asked}
+use Rattle.safety.proofs.Building.{opened, level, length-opened, level-is, programs, keyed-programs, counts-are}
 use Rattle.trees.specs.Trees.{Tree, Cell, Block, Bound, Whole, Pushed, Leaf, More, count, taken, left, topOf, grown}
 use Rattle.trees.proofs.Values.{depthAt, instead, select-place, value, len-value, Good}
 use Rattle.trees.proofs.Words.{Quiet, quiet-under}
@@ -37,30 +38,6 @@ Blocks = List (List (Tree one))
 abbrev pub flat : Blocks → List (Tree one)
 flat [] = []
 flat (ps ∷ B) = ps ++ flat B
-
--- NSTACK with the blocks B open
-abbrev pub opened : Blocks → List ℕ → List ℕ
-opened [] nst = nst
-opened (ps ∷ B) nst = 0 ∷ opened B nst
-
--- the LAMBDAs that are open inside of the blocks B, where l are outside of them
-abbrev pub level : Blocks → ℕ → ℕ
-level [] l = l
-level (ps ∷ B) l = suc (level B l)
-
-length-opened : (B : Blocks) (nst : List ℕ) (l : ℕ) → length nst ≡ l → length (opened B nst) ≡ level B l
-length-opened [] nst l e = e
-length-opened (ps ∷ B) nst l e = ap suc (length-opened B nst l e)
-
-level-length : (B : Blocks) (l : ℕ) → level B l ≡ l + length B
-level-length [] l = omega arith
-level-length (ps ∷ B) l = let h = level-length B l in omega arith
-
-pub level-is : (l : ℕ) (ps : List (Tree one)) (B : Blocks) → l + blocks (map length (ps ∷ B)) ≡ level B l
-level-is l ps B =
-    let h = level-length B l in
-    let k : length (map length B) ≡ length B = length-map B length in
-    omega arith
 
 quiet-opened : (inside : Bool) (off : ℕ) (nst : List ℕ) (B : Blocks) → Quiet inside off nst → Quiet inside off (opened B nst)
 quiet-opened inside off nst [] q = q
@@ -252,18 +229,9 @@ module _ (ent : ℕ → Term) where
       PUSHI-steps : (e D : ℕ) (a : Bodies) → Claim bodies a → Claim instruction (PUSHI e D a)
       PUSHI-steps e D a made inside l nest ps B hs w f =
           let m = map length (ps ∷ B) in
-          let asks : ℕ → List ℕ → Option (List ℕ) = λ b g.
-          need (eqb (D + b) (l + blocks m + dShift)) (need (leb (bodyCount a) pairLimit) (need (allBelow b (keys a)) (need (covers b g (keys a))
-          (need (build es true (l + blocks m) (nest + blocks m) a) (oneMore m))))) in
-          let r = named (λ x. Unit {0}) es env e asks hs ok w in
-          let b = r .b in
-          let q₁ = needed (eqb (D + b) (l + blocks m + dShift)) _ hs (r .says) in
-          let q₂ = needed (leb (bodyCount a) pairLimit) _ hs (q₁ .1) in
-          let q₃ = needed (allBelow b (keys a)) _ hs (q₂ .1) in
-          let q₄ = needed (covers b (r .guard) (keys a)) _ hs (q₃ .1) in
-          let q₅ = needed (build es true (l + blocks m) (nest + blocks m) a) _ hs (q₄ .1) in
-          pushed (made true (l + blocks m) (nest + blocks m) (T-of _ (q₅ .0))) (level-is l ps B) r
-          (eqb-true (D + b) (l + blocks m + dShift) (q₁ .0)) (T-of (covers b (r .guard) (keys a)) (q₄ .0)) (counts-are (length ps + 1) _ _ hs (q₅ .1) (omega arith))
+          let r = named (λ x. Unit {0}) es env e (pushAsks es l nest D a m) hs ok w in
+          let q = push-asked es l nest D a m hs (r .b) (r .guard) (r .says) in
+          pushed (made true (l + blocks m) (nest + blocks m) (q .bodies)) (level-is l ps B) r (q .shift) (q .covered) (counts-are (length ps + 1) _ _ hs (q .more) (omega arith))
         where
           goal : (b : ℕ) (x : Term) → BodiesMake (level B l) a → getElem? env e ≡ some (entry b x) → b ≤ 64 → D + b ≡ level B l + dShift
               → AllFree (λ y. T (covered (keys a) b y)) x → hs ≡ suc (length ps) ∷ map length B → Step inside l (grown (PUSHI e D a)) (exec (PUSHI e D a)) ps B hs
@@ -338,9 +306,8 @@ module _ (ent : ℕ → Term) where
           steps-then i c inside l ps B (q .0) hs s (grows-as-checked c inside l nest (s .top) (s .around) hs (rw (s .counted) at (q .2)) (s .good))
       grows-as-checked None = λ inside l nest t. record { arity = refl; runs = tt; good = tt }
       grows-as-checked (Body k c a) = λ inside l nest t.
-          let q = of-and (ltb nest nestLimit && oneTerm (build es true l (nest + 1) c (0 ∷ []))) (build es inside l nest a) t in
-          let p = of-and (ltb nest nestLimit) (oneTerm (build es true l (nest + 1) c (0 ∷ []))) (q .0) in
-          let m = makes true l c (grows-as-checked c true l (nest + 1) [] [] (1 ∷ []) (one-term _ (p .1)) (tt, tt)) in
+          let q = body-asked es inside l nest k c a t in
+          let m = makes true l c (grows-as-checked c true l (nest + 1) [] [] (1 ∷ []) (q .0) (tt, tt)) in
           bodies-then k l c a m (grows-as-checked a inside l nest (q .1))
 
       -- code of which the check says that it makes exactly one term

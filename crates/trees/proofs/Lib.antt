@@ -6,4 +6,3 @@ pub mod Depths
 pub mod Reaches
 pub mod Growing
 pub mod Made
-pub mod Fitting

@@ -89,10 +89,3 @@ made-of env rest f m =
 pub made : (es : List Slot) (env : List Entry) (rest : Program) → EntriesOk (λ x. Unit {0}) es env → AllFit env
     → T (oneTerm (build es false 0 0 rest (0 ∷ []))) → Made env rest
 made es env rest ok f t = made-of env rest f (makes-its-tree (entryOf env) [] env es ok (holds-entry env) false 0 0 rest t)
-
--- and grows no tree beside it
-pub one-tree : (es : List Slot) (env : List Entry) (rest : Program) → EntriesOk (λ x. Unit {0}) es env
-    → T (oneTerm (build es false 0 0 rest (0 ∷ []))) → grown rest [] ≡ topOf (grown rest []) ∷ []
-one-tree es env rest ok t =
-    let m = makes-its-tree (entryOf env) [] env es ok (holds-entry env) false 0 0 rest t in
-    m .grows ∙ ap (λ (p : Tree one). p ∷ []) (ap topOf (sym (m .grows)))

@@ -1,17 +1,15 @@
--- Sizes of what a tree makes: two words a node, at least one node, no deeper than it has nodes, and no part larger than the whole.
+-- Sizes of what a tree makes: two words a node, at least one node, and no deeper than it has nodes.
 use mathlib.Core.Path.{_≡_, refl}
-use Prim.Native.Nat.{ℕ, zero, suc, _+_, _-_, _*_, _≤_}
+use Prim.Native.Nat.{ℕ, suc, _+_, _-_, _*_, _≤_}
 use native.Mathlib.Omega.{arith}
-use mathlib.Core.Bool.{Bool, true, false, _||_, cond}
+use mathlib.Core.Bool.{cond}
 use mathlib.Core.Option.{Option, none, some}
-use mathlib.Core.List.{List, [], _∷_, _++_, map}
-use lib.Dec.{T, eqb, ltb}
-use lib.ListN.{length, getD, length-append}
-use borrow.Author.Tests.{eqb-true}
-use Rattle.documents.specs.Lists.{member, assoc, pairlists}
+use mathlib.Core.List.{List, [], _∷_, map}
+use lib.Dec.{ltb}
+use lib.ListN.{length, length-append}
+use Rattle.documents.specs.Lists.{assoc, pairlists}
 use Rattle.documents.specs.Terms.{Sort, one, many, Tm, Var, Sym, Meta, Abst, Nil, Cons, Term}
 use Rattle.documents.specs.Tables.{nodeWord, nodes, depth}
-use Rattle.documents.specs.Rules.{fv, freevars}
 use Rattle.documents.proofs.Lists.{case}
 use Rattle.documents.proofs.Tables.{length-tableOf}
 use Rattle.trees.specs.Trees.{Tree, Cell, Block, Bound, Whole, Pushed, Leaf, More, orOne, spreadNodes, sum, Counted, nodesOf, spreadDepth, greatest, depthOf, Writer, Written, orMovedWords, spreadWords, inOrder, wordsOf}
@@ -70,10 +68,6 @@ module _ (ent : ℕ → Term) where
 
   pub words-size : (p : Tree one) (off : ℕ) (nst : List ℕ) → length (wordsOf ent p off nst) ≡ 2 * nodesOf ent p
   words-size p = sized p
-
-  -- and those of trees, one after the other
-  pub words-sizes : (ps : Tree many) (off : ℕ) (nst : List ℕ) → length (inOrder (wordsOf ent ps) off nst) ≡ 2 * sum (nodesOf ent ps)
-  words-sizes ps = order-size (wordsOf ent ps) (nodesOf ent ps) (sized ps)
 
 -- ---- At least one level, and no more levels than nodes
 
@@ -145,56 +139,5 @@ module _ (ent : ℕ → Term) where
   pub depth-positive-of : (p : Tree one) → 1 ≤ depthOf ent p
   depth-positive-of p = levels p .0
 
-  pub depth-within : (p : Tree one) → depthOf ent p ≤ nodesOf ent p
-  depth-within p = levels p .1
-
   pub nodes-positive : (p : Tree one) → 1 ≤ nodesOf ent p
   nodes-positive p = let h = levels p in omega (arith, h .0, h .1)
-
--- ---- No part is larger than the whole
-
-pub each-within : (ns : List ℕ) (i : ℕ) → getD ns i 0 ≤ sum ns
-each-within [] i = omega arith
-each-within (n ∷ ns) zero = omega arith
-each-within (n ∷ ns) (suc i) = let h = each-within ns i in omega arith
-
-pub each-below-greatest : (ns : List ℕ) (i : ℕ) → getD ns i 0 ≤ greatest ns
-each-below-greatest [] i = omega arith
-each-below-greatest (n ∷ ns) zero = omega arith
-each-below-greatest (n ∷ ns) (suc i) = let h = each-below-greatest ns i in omega arith
-
-pub sum-append : (ms ns : List ℕ) → sum (ms ++ ns) ≡ sum ms + sum ns
-sum-append [] ns = omega arith
-sum-append (m ∷ ms) ns = let h = sum-append ms ns in omega arith
-
-module _ (f : ℕ → Option ℕ) (y k : ℕ) (e : f y ≡ some k) where
-  var-size : (n x : ℕ) → T (member (fv n (Var x)) y) → k ≤ spreadNodes f n (Var x)
-  var-size n x =
-      case (λ q. T (member (cond q [] ((x - n) ∷ [])) y) → k ≤ cond q 1 (orOne (f (x - n)))) (ltb x n)
-      (λ t m. absurd m) (λ t m. go (x - n) (eqb (x - n) y) refl m)
-    where
-      go : (z : ℕ) (q : Bool) → eqb z y ≡ q → T (q || false) → k ≤ orOne (f z)
-      go z true p m = rw (eqb-true z y p, e) (omega arith)
-      go z false p m = absurd m
-
-  member-either : (l m : List ℕ) → T (member (l ++ m) y) → (P : Type 0) → (T (member l y) → P) → (T (member m y) → P) → P
-  member-either [] m h P f g = g h
-  member-either (x ∷ l) m h P f g =
-      case (λ q. T (q || member (l ++ m) y) → (T (q || member l y) → P) → P) (eqb x y)
-      (λ t h f. f tt) (λ t h f. member-either l m h P f g) h f
-
-  -- a body whose key is free in the entry is at most as large as what the entry makes
-  pub body-size : {s : Sort} (n : ℕ) (t : Tm s) → T (member (fv n t) y) → k ≤ spreadNodes f n t
-  body-size n (Var x) m = var-size n x m
-  body-size n (Sym s ts) m = let h = body-size n ts m in omega arith
-  body-size n (Meta z ts) m = let h = body-size n ts m in omega arith
-  body-size n (Abst t) m = let h = body-size (suc n) t m in omega arith
-  body-size n Nil m = absurd m
-  body-size n (Cons t ts) m =
-      member-either (fv n t) (fv n ts) m (k ≤ spreadNodes f n t + spreadNodes f n ts)
-      (λ p. let h = body-size n t p in omega arith) (λ p. let h = body-size n ts p in omega arith)
-
--- the same of the tree
-pub body-within : (ent : ℕ → Term) (e D : ℕ) (ks : List ℕ) (ps : Tree many) (y k : ℕ) → assoc (pairlists ks (nodesOf ent ps)) y ≡ some k
-    → T (member (freevars (ent e)) y) → k ≤ nodesOf ent (Pushed e D ks ps)
-body-within ent e D ks ps y k w m = body-size (assoc (pairlists ks (nodesOf ent ps))) y k w 0 (ent e) m

@@ -1,68 +1,28 @@
 -- The build part, counted: what each instruction makes of the number of finished terms, and where the next one stands.
-use mathlib.Core.Path.{_≡_, refl, sym, ap, _∙_}
+use mathlib.Core.Path.{_≡_, refl, sym, _∙_}
 use Prim.Native.Nat.{ℕ, zero, suc, _+_, _-_, _≤_, _<_}
 use native.Mathlib.Omega.{arith}
-use native.Mathlib.Decide.{ℕ-discrete}
-use mathlib.Core.Bool.{true, false}
-use mathlib.Core.Option.{Option, none, some}
+use mathlib.Core.Bool.{false}
+use mathlib.Core.Option.{Option, none, some, Option·some-injective}
 use mathlib.Core.List.{List, [], _∷_}
 use lib.Dec.{T, eqb, leb, ltb}
 use lib.ListN.{length, getD, getElem?}
-use borrow.Author.Tests.{leb-true, leb-false, ltb-true, ltb-false, eqb-true}
-use Rattle.documents.specs.Limits.{argumentLimit, indexLimit, dShift}
+use borrow.Author.Tests.{leb-true, eqb-true, eqb-false}
+use Rattle.documents.specs.Limits.{argumentLimit, indexLimit}
 use Rattle.documents.specs.Lists.{need, andThen}
-use Rattle.documents.specs.Instructions.{IS, ISABST, NEXT, CHECK, SET, EQVAR, EQIMM, EQI, CELL, LAMBDA, ADBMAL, PUSHVAR, PUSHIMM, PUSHI, End, _▸_, Instruction, Program, Bodies, whole, ReadBodies, wholeBodies, opcode, fixedAfter, bodyCount, keys, before, bodyThen}
+use Rattle.documents.specs.Instructions.{IS, ISABST, NEXT, CHECK, SET, EQVAR, EQIMM, EQI, CELL, LAMBDA, ADBMAL, PUSHVAR, PUSHIMM, PUSHI, End, _▸_, Instruction, Program, Bodies, whole, opcode, fixedAfter}
 use Rattle.documents.specs.Machine.{first}
-use Rattle.documents.specs.Passing.{openLimit, pairLimit, nestLimit, Slot, slot, withSlot, covers, allBelow, blocks, oneMore, takeMany, shut, oneTerm, build}
-use Rattle.documents.proofs.Lists.{never, case, on, off, needed, andThen-is}
-use Rattle.instructions.specs.Places.{programAt, bodiesAt, readAt}
-use Rattle.instructions.proofs.Reading.{pushedThen, bodies-left, First, read-within, read-cell, read-lambda, read-adbmal, read-pushvar, read-pushimm, program-plain, program-push, program-short, program-first, program-done, bodies-short, bodies-step, bodies-done}
+use Rattle.documents.specs.Passing.{openLimit, nestLimit, Slot, blocks, oneMore, takeMany, shut, oneTerm, build}
+use Rattle.documents.proofs.Lists.{never, case, on, off, needed}
+use Rattle.instructions.specs.Places.{programAt, readAt}
+use Rattle.instructions.specs.Bodies.{Readable, placeBehind}
+use Rattle.instructions.proofs.Reading.{First, read-cell, read-lambda, read-adbmal, read-pushvar, read-pushimm, program-first, program-done}
+use Rattle.instructions.proofs.Bodies.{Ends, bodies-end, behind-low}
+use Rattle.instructions.proofs.Starts.{Starts, StartsPush, fixed-at, starts-plain, starts-push}
 use Rattle.safety.proofs.Counts.{total}
+use Rattle.safety.proofs.Asked.{slot-there, pushAsks, push-asked}
 use Rattle.watcher.specs.declared.count.Built.{Built}
-use Rattle.watcher.specs.Counting.{Counted, Grown, Grows, Finishes, Bodied, endOf, bodiesEnd}
-
--- ---- bodies
-
-module _ {code : List ℕ} {at left : ℕ} (b : Bodied code at left) where
-  pub record Passes : Type 0 where
-    pub within : at + (2 + getD code (at + 1) 0) ≤ length code
-    pub next : Bodied code (at + (2 + getD code (at + 1) 0)) (left - 1)
-    pub same : bodiesEnd code (at + (2 + getD code (at + 1) 0)) (left - 1) ≡ bodiesEnd code at left
-
-body-is : (k : ℕ) (p : Option Program) (o : Option ReadBodies) (b : Bodies) (m : ℕ) → bodyThen k p o ≡ some (wholeBodies b m) → (a : Bodies) × (o ≡ some (wholeBodies a m))
-body-is k none o b m e = never (cc)
-body-is k (some p) none b m e = never (cc)
-body-is k (some p) (some (wholeBodies a n)) b m e = let z : n ≡ m = cc in (a, rw z)
-
--- past a body
-pub passes-body : {code : List ℕ} {at left : ℕ} (b : Bodied code at left) → 0 < left → Passes b
-unfolding bodiesEnd
-passes-body {code} {at} {left = zero} b h = absurd (omega arith)
-passes-body {code} {at} {left = suc c} b h =
-    let n = getD code (at + 1) 0 in
-    case (λ q. Passes b) (leb (at + 2 + n) (length code))
-    (λ y.
-    let k = leb-true (at + 2 + n) (length code) (on _ y) in
-    let z : at + (2 + n) ≡ at + 2 + n = omega arith in
-    let x : suc c - 1 ≡ c = omega arith in
-    let q = body-is (getD code at 0) (programAt code (at + 2) (at + 2 + n)) (bodiesAt code (at + 2 + n) (length code) c) (b .bodies) (b .left) (sym (bodies-step code at (length code) c k (omega arith)) ∙ b .here) in
-    let e : bodiesAt code (at + (2 + n)) (length code) (suc c - 1) ≡ some (wholeBodies (q .0) (b .left)) = rw (z, x) (q .1) in
-    record {
-      within = omega arith;
-      next = record { bodies = q .0; left = b .left; inside = omega arith; here = e };
-      same = ap (λ (o : Option ReadBodies). endOf o (length code)) (e) ∙ ap (λ (o : Option ReadBodies). endOf o (length code)) {y = bodiesAt code at (length code) (suc c)} (sym (b .here));
-    })
-    (λ y. never (nothing (sym (bodies-short code at (length code) c (leb-false (at + 2 + n) (length code) (off _ y))) ∙ b .here)))
-  where
-    nothing : none ≡ some (wholeBodies (b .bodies) (b .left)) → _≡_ {A = ℕ} 0 1
-    nothing e = cc
-
-pub bodied-ended : {code : List ℕ} {at left : ℕ} → Bodied code at left → left ≤ 0 → at ≡ bodiesEnd code at left
-unfolding bodiesEnd
-bodied-ended {code} {at} {left = zero} b h =
-    let i = b .inside in
-    rw (bodies-done code at (length code)) (omega arith)
-bodied-ended {code} {at} {left = suc c} b h = absurd (omega arith)
+use Rattle.watcher.specs.Counting.{Counted, Grown, Grows, Finishes}
 
 -- ---- finished terms, all blocks together
 
@@ -71,11 +31,8 @@ taken-total n [] ks e = never (cc)
 taken-total n (h ∷ hs) ks e =
     let q = needed (leb n h) (some ((h - n + 1) ∷ hs)) ks e in
     let l = leb-true n h (q .0) in
-    let z : (h - n + 1) ∷ hs ≡ ks = some-is (q .1) in
+    let z : (h - n + 1) ∷ hs ≡ ks = Option·some-injective _ _ (q .1) in
     (omega arith, rw (sym z) (omega arith))
-  where
-    some-is : {x y : List ℕ} → some x ≡ some y → x ≡ y
-    some-is e = cc
 
 more-total : (hs ks : List ℕ) → oneMore hs ≡ some ks → total ks ≡ total hs + 1
 more-total [] ks e = never (cc)
@@ -87,15 +44,8 @@ shut-total (h ∷ []) ks e = never (cc)
 shut-total (h ∷ h₀ ∷ hs) ks e =
     let q = needed (eqb h 1) (some ((h₀ + 1) ∷ hs)) ks e in
     let l = eqb-true h 1 (q .0) in
-    let z : (h₀ + 1) ∷ hs ≡ ks = some-is (q .1) in
+    let z : (h₀ + 1) ∷ hs ≡ ks = Option·some-injective _ _ (q .1) in
     rw (sym z) (omega arith)
-  where
-    some-is : {x y : List ℕ} → some x ≡ some y → x ≡ y
-    some-is e = cc
-
-slot-is : (s : Option Slot) (f : ℕ → List ℕ → Option (List ℕ)) (ks : List ℕ) → withSlot s f ≡ some ks → (b : ℕ) × (g : List ℕ) × (f b g ≡ some ks)
-slot-is none f ks e = never (cc)
-slot-is (some (slot b g)) f ks e = (b, g, e)
 
 module _ (es : List Slot) (hs ks : List ℕ) where
   cell-total : (s n : ℕ) → build es false 0 0 (CELL s n) hs ≡ some ks → (n ≤ total hs) × (total ks ≡ total hs - n + 1)
@@ -112,20 +62,13 @@ module _ (es : List Slot) (hs ks : List ℕ) where
 
   pushimm-total : (x : ℕ) → build es false 0 0 (PUSHIMM x) hs ≡ some ks → total ks ≡ total hs + 1
   pushimm-total x e =
-      let q = slot-is (getElem? es x) (λ b g. need (eqb (0 + blocks hs) b) (oneMore hs)) ks e in
+      let q = slot-there (getElem? es x) (λ b g. need (eqb (0 + blocks hs) b) (oneMore hs)) ks e in
       more-total hs ks (needed (eqb (0 + blocks hs) (q .0)) (oneMore hs) ks (q .2) .1)
 
   pushi-total : (x D : ℕ) (a : Bodies) → build es false 0 0 (PUSHI x D a) hs ≡ some ks → total ks ≡ total hs + 1
   pushi-total x D a e =
-      let asks : ℕ → List ℕ → Option (List ℕ) = λ b g.
-      need (eqb (D + b) (0 + blocks hs + dShift)) (need (leb (bodyCount a) pairLimit) (need (allBelow b (keys a)) (need (covers b g (keys a))
-      (need (build es true (0 + blocks hs) (0 + blocks hs) a) (oneMore hs))))) in
-      let q = slot-is (getElem? es x) asks ks e in
-      let q₁ = needed (eqb (D + q .0) (0 + blocks hs + dShift)) _ ks (q .2) .1 in
-      let q₂ = needed (leb (bodyCount a) pairLimit) _ ks q₁ .1 in
-      let q₃ = needed (allBelow (q .0) (keys a)) _ ks q₂ .1 in
-      let q₄ = needed (covers (q .0) (q .1) (keys a)) _ ks q₃ .1 in
-      more-total hs ks (needed (build es true (0 + blocks hs) (0 + blocks hs) a) (oneMore hs) ks q₄ .1)
+      let q = slot-there (getElem? es x) (pushAsks es 0 0 D a hs) ks e in
+      more-total hs ks (push-asked es 0 0 D a hs ks (q .0) (q .1) (q .2) .more)
 
   -- no match instruction builds
   builds-only : (i : Instruction) → build es false 0 0 i hs ≡ some ks → (8 ≤ opcode i) × (opcode i ≤ 13)
@@ -154,27 +97,23 @@ build-checked rest i c es hs e t = go (build es false 0 0 i hs) refl (rw e at t)
     go none q t = absurd t
     go (some ks) q t = (ks, q, t)
 
+-- one of two opcodes, the one behind the other
+one-of : {P : Type 0} (w k : ℕ) → k ≤ w → w ≤ k + 1 → (w ≡ k → P) → (w ≡ k + 1 → P) → P
+one-of {P} w k l h f g = case (λ q. P) (eqb w k) (λ y. f (eqb-true w k (on _ y))) (λ y. let n = eqb-false w k (off _ y) in g (omega arith))
+
 module _ {code : List ℕ} {at finished : ℕ} (c : Counted code at finished) (lo : at < length code) where
   -- i stands there, and the next one at p
   record Stood (i : Instruction) (p : ℕ) : Type 0 where
-    pub later : Program
-    pub begins : c .rest ≡ i ▸ later
-    pub next : programAt code p (length code) ≡ some later
-    pub within : p ≤ length code
+    pub starts : Starts code (length code) (c .rest) i p
     pub behind : at < p
     pub ks : List ℕ
     pub goes : build (c .es) false 0 0 i (c .hs) ≡ some ks
-    pub checked : T (oneTerm (build (c .es) false 0 0 later ks))
+    pub checked : T (oneTerm (build (c .es) false 0 0 (starts .rest) ks))
 
-  stood : (i : Instruction) (p : ℕ) → programAt code at (length code) ≡ before i (programAt code p (length code)) → p ≤ length code → at < p → Stood i p
-  stood i p e h l =
-      let q = andThen-is (programAt code p (length code)) _ (c .rest) (sym e ∙ c .here) in
-      let b : c .rest ≡ i ▸ q .0 = is (q .2) in
-      let k = build-checked (c .rest) i (q .0) (c .es) (c .hs) b (c .checked) in
-      record { later = q .0; begins = b; next = q .1; within = h; behind = l; ks = k .0; goes = k .1; checked = k .2 }
-    where
-      is : {d : Program} → some (i ▸ d) ≡ some (c .rest) → c .rest ≡ i ▸ d
-      is e = cc
+  stood : {i : Instruction} {p : ℕ} → Starts code (length code) (c .rest) i p → at < p → Stood i p
+  stood {i} s l =
+      let k = build-checked (c .rest) i (s .rest) (c .es) (c .hs) (s .is) (c .checked) in
+      record { starts = s; behind = l; ks = k .0; goes = k .1; checked = k .2 }
 
   grown : {i : Instruction} {p : ℕ} (n : ℕ) (s : Stood i p) → total (s .ks) ≡ n → n ≤ finished + 1 → Grown c p n
   grown {i} {p} n s e h =
@@ -182,29 +121,28 @@ module _ {code : List ℕ} {at finished : ℕ} (c : Counted code at finished) (l
       let b = s .behind in
       record {
         i = i;
-        next = record { rest = s .later; es = c .es; hs = s .ks; words = c .words; inside = s .within; here = s .next; checked = s .checked; total-is = e; few = omega arith };
-        begins = s .begins;
+        next = record {
+          rest = s .starts .rest;
+          es = c .es;
+          hs = s .ks;
+          words = c .words;
+          inside = s .starts .within;
+          here = s .starts .behind;
+          checked = s .checked;
+          total-is = e;
+          few = omega arith;
+        };
+        begins = s .starts .is;
         entries = refl;
         goes = s .goes;
         later = b;
       }
 
-  -- its fixed words are there
-  pub fixed : at + 1 + fixedAfter (getD code at 0) ≤ length code
-  fixed =
-      case (λ q. at + 1 + fixedAfter (getD code at 0) ≤ length code) (leb (at + 1 + fixedAfter (getD code at 0)) (length code)) (λ y. leb-true _ _ (on _ y))
-      (λ y. never (nothing (sym (program-short code at (length code) lo (omega arith) (leb-false _ _ (off _ y))) ∙ c .here)))
-    where
-      nothing : none ≡ some (c .rest) → _≡_ {A = ℕ} 0 1
-      nothing e = cc
-
-  pub fixed-at : (w : ℕ) → getD code at 0 ≡ w → at + 1 + fixedAfter w ≤ length code
-  fixed-at w o = rw o at fixed
+  there : (w : ℕ) → getD code at 0 ≡ w → at + 1 + fixedAfter w ≤ length code
+  there w o = fixed-at code (c .here) lo (omega arith) w o
 
   plain : (i : Instruction) (n p : ℕ) → (getD code at 0 ≡ 13 → ⊥) → readAt code at (length code) ≡ some (whole i n) → at + 1 + n ≡ p → Stood i p
-  plain i n p o r e =
-      let w = read-within code at (length code) i n lo r .1 in
-      rw (← e) (stood i (at + 1 + n) (program-plain code at (length code) lo (omega arith) o ∙ rw r) w (omega arith))
+  plain i n p o r e = stood (starts-plain code (c .here) lo (omega arith) i n p o r e) (omega arith)
 
   -- only build instructions stand there
   pub opcodes : (8 ≤ getD code at 0) × (getD code at 0 ≤ 13)
@@ -221,13 +159,13 @@ module _ {code : List ℕ} {at finished : ℕ} (c : Counted code at finished) (l
 
   module _ (o : getD code at 0 ≡ 8) where
     cell-here : Stood (CELL (getD code (at + 1) 0) (getD code (at + 2) 0)) (at + 3)
-    cell-here = plain _ 2 (at + 3) (λ q. omega arith) (read-cell code at (length code) o refl (fixed-at 8 o)) (omega arith)
+    cell-here = plain _ 2 (at + 3) (λ q. omega arith) (read-cell code at (length code) o refl (there 8 o)) (omega arith)
 
     cell-counts : (getD code (at + 2) 0 ≤ total (c .hs)) × (total (cell-here .ks) ≡ total (c .hs) - getD code (at + 2) 0 + 1)
     cell-counts = cell-total (c .es) (c .hs) (cell-here .ks) (getD code (at + 1) 0) (getD code (at + 2) 0) (cell-here .goes)
 
     pub cell-words : at + 3 ≤ length code
-    cell-words = let h = fixed-at 8 o in omega arith
+    cell-words = let h = there 8 o in omega arith
 
     pub cell-takes : getD code (at + 2) 0 ≤ finished
     cell-takes = let h = cell-counts .0 in let t = c .total-is in omega arith
@@ -240,88 +178,47 @@ module _ {code : List ℕ} {at finished : ℕ} (c : Counted code at finished) (l
   pub whole-grows : 11 ≤ getD code at 0 → (getD code at 0 ≡ 13 → ⊥) → Grown c (at + 2) (finished + 1)
   whole-grows h n =
       let t = c .total-is in
-      either
-      (λ o. let s = plain _ 1 (at + 2) n (read-pushvar code at (length code) o refl (fixed-at 11 o)) (omega arith) in
+      let b = opcodes .1 in
+      one-of (getD code at 0) 11 h (omega arith)
+      (λ o. let s = plain _ 1 (at + 2) n (read-pushvar code at (length code) o refl (there 11 o)) (omega arith) in
       let k = pushvar-total (c .es) (c .hs) (s .ks) (getD code (at + 1) 0) (s .goes) in grown (finished + 1) s (omega arith) (omega arith))
-      (λ o. let s = plain _ 1 (at + 2) n (read-pushimm code at (length code) o refl (fixed-at 12 o)) (omega arith) in
+      (λ o. let s = plain _ 1 (at + 2) n (read-pushimm code at (length code) o refl (there 12 o)) (omega arith) in
       let k = pushimm-total (c .es) (c .hs) (s .ks) (getD code (at + 1) 0) (s .goes) in grown (finished + 1) s (omega arith) (omega arith))
-    where
-      either : {P : Type 0} → (getD code at 0 ≡ 11 → P) → (getD code at 0 ≡ 12 → P) → P
-      either {P} f g = go (ℕ-discrete (getD code at 0) 11) (ℕ-discrete (getD code at 0) 12)
-        where
-          go : Dec (getD code at 0 ≡ 11) → Dec (getD code at 0 ≡ 12) → P
-          go (yes e) d = f e
-          go (no a) (yes e) = g e
-          go (no a) (no b) = absurd (none-of a b n h (opcodes .1))
-            where
-              none-of : {w : ℕ} → (w ≡ 11 → ⊥) → (w ≡ 12 → ⊥) → (w ≡ 13 → ⊥) → 11 ≤ w → w ≤ 13 → ⊥
-              none-of {w} a b c l h =
-                  case (λ q. ⊥) (ltb w 12) (λ y. let k = ltb-true w 12 (on _ y) in a (omega arith))
-                  (λ y. let k = ltb-false w 12 (off _ y) in case (λ q. ⊥) (ltb w 13) (λ z. let j = ltb-true w 13 (on _ z) in b (omega arith)) (λ z. let j = ltb-false w 13 (off _ z) in c (omega arith)))
 
   -- ---- LAMBDA and ADBMAL
 
   pub block-grows : getD code at 0 < 11 → (getD code at 0 ≡ 8 → ⊥) → Grown c (at + 1) finished
   block-grows h n =
       let t = c .total-is in
-      either
-      (λ o. let s = plain _ 0 (at + 1) (λ q. omega arith) (read-lambda code at (length code) o refl (fixed-at 9 o)) (omega arith) in
+      let b = opcodes .0 in
+      one-of (getD code at 0) 9 (omega arith) (omega arith)
+      (λ o. let s = plain _ 0 (at + 1) (λ q. omega arith) (read-lambda code at (length code) o refl (there 9 o)) (omega arith) in
       let k = lambda-total (c .es) (c .hs) (s .ks) (s .goes) in grown finished s (omega arith) (omega arith))
-      (λ o. let s = plain _ 0 (at + 1) (λ q. omega arith) (read-adbmal code at (length code) o refl (fixed-at 10 o)) (omega arith) in
+      (λ o. let s = plain _ 0 (at + 1) (λ q. omega arith) (read-adbmal code at (length code) o refl (there 10 o)) (omega arith) in
       let k = shut-total (c .hs) (s .ks) (s .goes) in grown finished s (omega arith) (omega arith))
-    where
-      either : {P : Type 0} → (getD code at 0 ≡ 9 → P) → (getD code at 0 ≡ 10 → P) → P
-      either {P} f g = go (ℕ-discrete (getD code at 0) 9) (ℕ-discrete (getD code at 0) 10)
-        where
-          go : Dec (getD code at 0 ≡ 9) → Dec (getD code at 0 ≡ 10) → P
-          go (yes e) d = f e
-          go (no a) (yes e) = g e
-          go (no a) (no b) = absurd (none-of n a b (opcodes .0) h)
-            where
-              none-of : {w : ℕ} → (w ≡ 8 → ⊥) → (w ≡ 9 → ⊥) → (w ≡ 10 → ⊥) → 8 ≤ w → w < 11 → ⊥
-              none-of {w} a b c l h =
-                  case (λ q. ⊥) (ltb w 9) (λ y. let k = ltb-true w 9 (on _ y) in a (omega arith))
-                  (λ y. let k = ltb-false w 9 (off _ y) in case (λ q. ⊥) (ltb w 10) (λ z. let j = ltb-true w 10 (on _ z) in b (omega arith)) (λ z. let j = ltb-false w 10 (off _ z) in c (omega arith)))
 
   -- ---- PUSHI
 
   module _ (o : getD code at 0 ≡ 13) where
+    push-here : StartsPush code at (length code) (c .rest)
+    push-here = starts-push code (c .here) lo (omega arith) o
+
     pub push-room : at + 4 ≤ length code
-    push-room = let h = fixed-at 13 o in omega arith
+    push-room = push-here .words
 
-    record PushHere : Type 0 where
-      pub bodies : Bodies
-      pub left : ℕ
-      pub here : bodiesAt code (at + 4) (length code) (getD code (at + 3) 0) ≡ some (wholeBodies bodies left)
-      pub stands : Stood (PUSHI (getD code (at + 1) 0) (getD code (at + 2) 0) bodies) (length code - left)
+    push-ends : Ends code (at + 4) (length code) (getD code (at + 3) 0) (push-here .left)
+    push-ends = bodies-end (getD code (at + 3) 0) (at + 4) (push-here .bodies) (push-here .left) (omega arith) push-room (push-here .here)
 
-    push-here : PushHere
-    push-here = go (bodiesAt code (at + 4) (length code) (getD code (at + 3) 0)) refl
-      where
-        whole-push : programAt code at (length code) ≡ pushedThen (bodiesAt code (at + 4) (length code) (getD code (at + 3) 0)) (λ o m. before (PUSHI (getD code (at + 1) 0) (getD code (at + 2) 0) o) (programAt code (length code - m) (length code)))
-        whole-push = program-push code at (length code) lo (omega arith) push-room o
+    pub push-readable : Readable code (at + 4) (getD code (at + 3) 0)
+    push-readable = push-ends .readable
 
-        nothing : none ≡ some (c .rest) → _≡_ {A = ℕ} 0 1
-        nothing e = cc
-
-        go : (b : Option ReadBodies) → bodiesAt code (at + 4) (length code) (getD code (at + 3) 0) ≡ b → PushHere
-        go none q = never (nothing (sym (whole-push ∙ rw q) ∙ c .here))
-        go (some (wholeBodies b m)) q =
-            let l = bodies-left _ 0 (length code - (at + 4)) (getD code (at + 3) 0) b m q in
-            let r = push-room in
-            record { bodies = b; left = m; here = q; stands = stood _ (length code - m) (whole-push ∙ rw q) (omega arith) (omega arith) }
-
-    pub push-bodied : Bodied code (at + 4) (getD code (at + 3) 0)
-    push-bodied = record { bodies = push-here .bodies; left = push-here .left; inside = push-room; here = push-here .here }
-
-    pub push-grows : (p : ℕ) → p ≡ bodiesEnd code (at + 4) (getD code (at + 3) 0) → Grown c p (finished + 1)
-    unfolding bodiesEnd
+    pub push-grows : (p : ℕ) → p ≡ placeBehind code (at + 4) (getD code (at + 3) 0) → Grown c p (finished + 1)
     push-grows p e =
-        let s = push-here .stands in
+        let l = behind-low code (at + 4) (getD code (at + 3) 0) in
+        let s = stood (push-here .starts) (omega arith) in
         let k = pushi-total (c .es) (c .hs) (s .ks) (getD code (at + 1) 0) (getD code (at + 2) 0) (push-here .bodies) (s .goes) in
         let t = c .total-is in
-        let z : p ≡ length code - push-here .left = e ∙ ap (λ (o : Option ReadBodies). endOf o (length code)) (push-here .here) in
-        rw z (grown (finished + 1) s (omega arith) (omega arith))
+        rw e (grown (finished + 1) s (omega arith) (omega arith))
 
 -- ---- the loop
 

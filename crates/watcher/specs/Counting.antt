@@ -1,16 +1,16 @@
 -- Finished terms of the build part, counted as the check counts them (document 01, 'When code passes').
 use mathlib.Core.Path.{_≡_}
-use Prim.Native.Nat.{ℕ, _-_, _≤_, _<_}
+use Prim.Native.Nat.{ℕ, _≤_, _<_}
 use mathlib.Core.Bool.{false}
-use mathlib.Core.Option.{Option, none, some}
+use mathlib.Core.Option.{some}
 use mathlib.Core.List.{List}
 use lib.Dec.{T}
 use lib.ListN.{length}
 use Rattle.documents.specs.Limits.{codeLimit}
-use Rattle.documents.specs.Instructions.{_▸_, Instruction, Program, Bodies, ReadBodies, wholeBodies}
+use Rattle.documents.specs.Instructions.{_▸_, Instruction, Program}
 use Rattle.documents.specs.Machine.{first}
 use Rattle.documents.specs.Passing.{Slot, oneTerm, build}
-use Rattle.instructions.specs.Places.{programAt, bodiesAt}
+use Rattle.instructions.specs.Places.{programAt}
 use Rattle.safety.proofs.Counts.{total}
 use Rattle.watcher.specs.declared.count.Built.{Built}
 
@@ -48,18 +48,3 @@ pub record Finished {code : List ℕ} {at finished : ℕ} (c : Counted code at f
 
 pub record Finishes (code : List ℕ) (from i n : ℕ) : Type 0 where
   pub means : (c : Counted code from 0) → Finished c i n
-
--- whole bodies stand at a place, so many
-pub record Bodied (code : List ℕ) (at count : ℕ) : Type 0 where
-  pub bodies : Bodies
-  pub left : ℕ
-  pub inside : at ≤ length code
-  pub here : bodiesAt code at (length code) count ≡ some (wholeBodies bodies left)
-
-abbrev pub endOf : Option ReadBodies → ℕ → ℕ
-endOf none e = 0
-endOf (some (wholeBodies o n)) e = e - n
-
--- the place behind them
-unfoldable pub bodiesEnd : List ℕ → ℕ → ℕ → ℕ
-bodiesEnd code at count = endOf (bodiesAt code at (length code) count) (length code)

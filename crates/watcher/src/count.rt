@@ -2,10 +2,10 @@
 use documents::op::CELL;
 use documents::op::PUSHI;
 use documents::op::PUSHVAR;
-ghost use mathlib.Core.Path.{_≡_};
+use instructions::body::behind;
 ghost use Prim.Native.Nat.{_<_};
 ghost use lib.ListN.{length};
-ghost use Rattle.watcher.specs.Counting.{Counted, Grows, Finishes, Bodied, bodiesEnd};
+ghost use Rattle.watcher.specs.Counting.{Counted, Grows, Finishes};
 
 // Where the next outermost instruction stands, and how many finished terms there are then.
 pub struct Built {
@@ -46,7 +46,7 @@ fn grow(code: &[u32], at: usize, finished: u32) -> Built
         };
     }
     if op == PUSHI {
-        let next = behind_bodies(code, at + 4, code[at + 3]);
+        let next = behind(code, at + 4, code[at + 3]);
         return Built {
             next,
             finished: finished + 1,
@@ -62,18 +62,4 @@ fn grow(code: &[u32], at: usize, finished: u32) -> Built
         next: at + 1,
         finished,
     }
-}
-
-// The place behind so many bodies: each a key, the number of the body's words, the body.
-fn behind_bodies(code: &[u32], from: usize, count: u32) -> usize
-    requires { ⌜ Bodied (now code) from count ⌝ }
-    ensures { λ r. ⌜ r ≡ bodiesEnd (now (code .entry)) from count ⌝ }
-{
-    let mut at: usize = from;
-    let mut left: u32 = count;
-    while 0 < left {
-        at += 2 + code[at + 1] as usize;
-        left -= 1;
-    }
-    at
 }

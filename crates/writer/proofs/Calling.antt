@@ -1,6 +1,6 @@
 -- A whole result: what its measurement leaves is what the walk asks for, and its words then stand at the front of the table.
 use mathlib.Core.Path.{_≡_, refl, sym, ap, _∙_}
-use Prim.Native.Nat.{ℕ, _+_, _*_, _≤_}
+use Prim.Native.Nat.{ℕ, _*_, _≤_}
 use native.Mathlib.Omega.{arith}
 use mathlib.Core.List.{List, [], _++_}
 use lib.ListN.{length, drop}

@@ -14,19 +14,19 @@ use Rattle.documents.specs.Terms.{Term, one, many}
 use Rattle.documents.specs.Tables.{tableOf, Fits, nodes, depth}
 use Rattle.documents.proofs.Lists.{on, T-of, of-and}
 use Rattle.documents.proofs.Tables.{length-tableOf}
+use Rattle.instructions.specs.Bodies.{keyPlace}
 use Rattle.trees.specs.Trees.{Tree, Cell, Block, Bound, Whole, Pushed, Leaf, More, count, orOne, depthOf, Writer, orMovedWords, spreadWords, wordsOf}
 use Rattle.trees.proofs.Sizes.{depth-positive, depth-nodes}
 use Rattle.survey.specs.Places.{place, placesOf}
 use Rattle.survey.proofs.Places.{length-places}
-use Rattle.links.specs.Bodies.{keyPlace}
 use Rattle.links.specs.Nodewise.{isFree, total, insideOf, nodeDepth, nodeWords, seenAt, nodeSeen}
 use Rattle.links.specs.Standing.{entryPlace, entryAt, Scene, root}
 use Rattle.links.proofs.Gathered.{gathered, total-is}
 use Rattle.links.proofs.Entered.{entered}
-use Rattle.links.proofs.Spread.{spread-depth}
+use Rattle.links.proofs.Spread.{total-none, spread-depth}
 use Rattle.writer.specs.Wanted.{movesNothing, Standing, TreeAt, EntryPart, FreeAt, Met}
 use Rattle.writer.proofs.Writings.{Splits}
-use Rattle.writer.proofs.Spreading.{spread-is, spread-same, total-none, total-more, total-each, total-greatest, Below, node-below}
+use Rattle.writer.proofs.Spreading.{spread-is, spread-same, total-more, total-each, total-greatest, Below, node-below}
 
 -- where the entry of an instruction at z stands
 pub record NamedAt (code subject entries work : List ℕ) (z : ℕ) : Type 0 where

@@ -6,16 +6,16 @@ use native.Mathlib.Omega.{arith}
 use mathlib.Core.Bool.{Bool, true, false, not, cond}
 use mathlib.Core.Option.{Option, none, some}
 use mathlib.Core.List.{List, [], _∷_, map}
-use lib.Dec.{eqb, leb, ltb}
+use lib.Dec.{eqb}
 use lib.ListN.{length, getD, drop}
-use borrow.Author.Tests.{eq-eqb, leb-true, ltb-true}
+use borrow.Author.Tests.{eq-eqb}
 use Rattle.documents.specs.Lists.{assoc, pairlists}
 use Rattle.documents.specs.Terms.{one, many}
-use Rattle.documents.proofs.Lists.{never, on, T-of, of-and}
+use Rattle.documents.proofs.Lists.{never}
+use Rattle.instructions.specs.declared.body.Found.the-variants.{Key, Missing}
+use Rattle.instructions.specs.Bodies.{bodyEnd, Readable, keyPlace, foundAt}
 use Rattle.trees.specs.Trees.{Tree, Leaf, More, count, orOne, depthOf, Writer, orMovedWords, wordsOf}
-use Rattle.links.specs.declared.find.Found.the-variants.{Key, Missing}
-use Rattle.links.specs.Bodies.{bodyEnd, Readable, keyPlace, foundAt}
-use Rattle.links.specs.Nodewise.{isFree, seenAt}
+use Rattle.links.specs.Nodewise.{seenAt}
 use Rattle.links.specs.Standing.{entryAt, Safe, root, held, Stands}
 use Rattle.writer.specs.Wanted.{TreeAt, FreeAt, Met}
 
@@ -26,11 +26,6 @@ key-found (some q) key e = cc
 pub key-missing : (o : Option ℕ) → foundAt o ≡ Missing → o ≡ none
 key-missing none e = refl
 key-missing (some q) e = never (cc)
-
--- a variable's word, free under n abstractions
-pub free-low : (w n : ℕ) → isFree w n ≡ true → (w < 65536) × (n ≤ w)
-unfolding isFree
-free-low w n e = let b = of-and (ltb w 65536) (leb n w) (T-of _ e) in (ltb-true w 65536 (on _ (b .0)), leb-true n w (on _ (b .1)))
 
 module _ (code subject entries work : List ℕ) (lo hi l : ℕ) where
   held-readable : (ps : Tree many) (ks : List ℕ) (q : ℕ) → Stands code subject entries (drop 4096 work) lo hi work ps (held ks q) → q ≤ hi → hi ≤ length code

@@ -72,10 +72,6 @@ module _ (f : ℕ → Option Writer) (D off : ℕ) (nst : List ℕ) (bare : (y :
 -- ---- One node more
 
 module _ {A : Type 0} (op : A → A → A) (u : A) (g : ℕ → ℕ → ℕ → A) where
-  pub total-none : (ws hs : List ℕ) → total op u g 0 ws hs ≡ u
-  unfolding total
-  total-none ws hs = refl
-
   module _ (op-assoc : (a b c : A) → op (op a b) c ≡ op a (op b c)) (left : (a : A) → op u a ≡ a) (right : (a : A) → op a u ≡ a) where
     pub total-more : (k : ℕ) (ws hs : List ℕ) → 2 * k + 2 ≤ length ws → k < length hs
         → total op u g (suc k) ws hs ≡ op (total op u g k ws hs) (g (getD ws (2 * k) 0) (getD ws (2 * k + 1) 0) (getD hs k 0))

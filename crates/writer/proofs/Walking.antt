@@ -9,9 +9,9 @@ use mathlib.Core.List.{List, [], _∷_, _++_}
 use lib.ListN.{length, getD, set, take, length-set}
 use lib.Seq.{getD-set-same, getD-set-other}
 use Rattle.documents.specs.Tables.{nodes}
+use Rattle.instructions.specs.Bodies.{keyPlace}
 use Rattle.trees.proofs.Sizes.{depth-positive-of}
 use Rattle.links.specs.Links.{beforeIn, overIn}
-use Rattle.links.specs.Bodies.{keyPlace}
 use Rattle.links.specs.Nodewise.{isFree, insideOf}
 use Rattle.links.specs.Standing.{entryAt}
 use Rattle.writer.specs.Written.{Wrote, Writes, Room, Same, nstack}

@@ -8,8 +8,8 @@ use lib.ListN.{length, getD, take, drop}
 use Rattle.documents.specs.Lists.{assoc, pairlists}
 use Rattle.documents.specs.Terms.{Sort, one, many}
 use Rattle.documents.specs.Instructions.{opCELL, opPUSHIMM}
+use Rattle.instructions.specs.Bodies.{keyPlace}
 use Rattle.trees.specs.Trees.{Tree, Pushed, orOne, depthOf, orMovedWords, wordsOf}
-use Rattle.links.specs.Bodies.{keyPlace}
 use Rattle.links.specs.Nodewise.{isFree, seenAt}
 use Rattle.links.specs.Standing.{entryPlace, entryAt, Scene, Safe, Spot, root, Stands}
 

@@ -33,7 +33,7 @@ use Rattle.measurer.proofs.spread.Reads as spread
 use Rattle.measurer.proofs.spread.Kinds as spread-kinds
 use Rattle.measurer.proofs.+free+measure+push+spread.Lts-spread as spread-lts
 use Rattle.documents.proofs.op.fixed_words.Reads as fixed-words-reads
-use Rattle.links.proofs.find.find.Reads as find-reads
+use Rattle.instructions.proofs.body.find.Reads as find-reads
 use Rattle.links.proofs.link.depth.Reads as depth-reads
 use Rattle.links.proofs.link.link.Reads as link-reads
 use Rattle.links.proofs.link.nodes.Reads as nodes-reads

@@ -9,12 +9,13 @@ use lib.ListN.{length, length-set}
 use borrow.Author.Needs.{needs}
 use borrow.Fn.Kinds.{In}
 use borrow.Fn.PlainCycle.{Measures, is, falls, and}
+use Rattle.links.proofs.Variables.{free-low}
 use Rattle.writer.proofs.Moves.{moves-pushed}
 use Rattle.writer.proofs.Writings.{writes-from, room-from, writes-exactly}
 use Rattle.writer.proofs.Opened.{same-none}
 use Rattle.writer.proofs.Rooting.{leaf-within, tree-root, tree-cell, tree-bound}
 use Rattle.writer.proofs.Entries.{named-part, tree-named, tree-pushed, copied-words}
-use Rattle.writer.proofs.Freed.{key-found, key-missing, free-low, free-readable, free-moved, free-falls}
+use Rattle.writer.proofs.Freed.{key-found, key-missing, free-readable, free-moved, free-falls}
 use Rattle.writer.proofs.Walking.{ready-bound, constant-fits, constant-written, bound-fits, bound-written, body-tree, body-ready, Writing, writing-from, writing-ended, writing-at, leaf-room, leaf-below, writing-leaf, node-cell, opened-high, opened-few, writing-opened, closed-kept, closed-within, closed-cell, closed-some, closed-fit, writing-closed, Entering, entry-root, entering-from, entering-ended, entering-ready, entering-two, entering-within, entering-below, entering-met, entering-room, entering-free, entering-fit, entering-kept}
 use Rattle.writer.proofs.write.Reads as write
 use Rattle.writer.proofs.write.Kinds as write-kinds
@@ -28,7 +29,7 @@ use Rattle.writer.proofs.+write+write_entry+write_free+write_leaf.Lts-w
 use Rattle.writer.proofs.write_leaf.Reads as write-leaf
 use Rattle.writer.proofs.write_leaf.Kinds as write-leaf-kinds
 use Rattle.writer.proofs.+write+write_entry+write_free+write_leaf.Lts-write_leaf as write-leaf-lts
-use Rattle.links.proofs.find.find.Reads as find-reads
+use Rattle.instructions.proofs.body.find.Reads as find-reads
 use Rattle.links.proofs.link.before.Reads as before-reads
 use Rattle.links.proofs.link.over.Reads as over-reads
 use Rattle.links.proofs.variable.is_free.Reads as is-free-reads

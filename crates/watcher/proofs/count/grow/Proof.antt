@@ -1,6 +1,6 @@
 -- `count::grow`: each opcode by its law; only build instructions can stand here.
 use native.Mathlib.Omega.{arith}
-use Rattle.watcher.proofs.Growing.{cell-words, cell-takes, cell-grows, push-room, push-bodied, push-grows, whole-grows, block-grows}
+use Rattle.watcher.proofs.Growing.{cell-words, cell-takes, cell-grows, push-room, push-readable, push-grows, whole-grows, block-grows}
 use borrow.Author.Needs.{needs}
 use Rattle.watcher.proofs.count.grow.Statement.{statement}
 use Rattle.watcher.proofs.count.grow.Tie as tie
@@ -22,9 +22,9 @@ grow-spec =
     (λ c. let b = push-room (c .before .before .before .before .pre .0) (c .before .before .before .before .pre .1) (c .if2 .taken) in search needs)
     (λ c. search needs)
     (λ c. let b = push-room (c .before .before .before .before .before .pre .0) (c .before .before .before .before .before .pre .1) (c .before .if2 .taken) in search needs)
-    (λ c κs. push-bodied (c .before .before .before .before .before .pre .0) (c .before .before .before .before .before .pre .1) (c .before .if2 .taken))
+    (λ c κs. push-readable (c .before .before .before .before .before .pre .0) (c .before .before .before .before .before .pre .1) (c .before .if2 .taken))
     (λ c. let f = c .before .before .before .before .before .before .pre .0 .few in let l = c .before .before .before .before .before .before .pre .0 .inside in let w = c .before .before .before .before .before .before .pre .0 .words in search needs)
-    (λ c. record { means = λ m. push-grows m (c .before .before .before .before .before .before .pre .1) (c .before .before .if2 .taken) _ (c .behind-bodies .ensures) })
+    (λ c. record { means = λ m. push-grows m (c .before .before .before .before .before .before .pre .1) (c .before .before .if2 .taken) _ (c .behind .ensures) })
     (λ c. search needs)
     (λ c. let f = c .before .before .before .before .before .pre .0 .few in let l = c .before .before .before .before .before .pre .0 .inside in let w = c .before .before .before .before .before .pre .0 .words in search needs)
     (λ c. record { means = λ m. whole-grows m (c .before .before .before .before .before .pre .1) (c .if3 .taken) (c .before .if2 .left) })

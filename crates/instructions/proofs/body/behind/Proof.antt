@@ -1,9 +1,9 @@
--- `find::behind`: the place behind the bodies that were passed.
+-- `body::behind`: the place behind the bodies that were passed.
 use native.Mathlib.Omega.{arith}
-use Rattle.links.proofs.Bodies.{Passing, passing-from, passing-in, passing-on, passing-end}
+use Rattle.instructions.proofs.Bodies.{Passing, passing-from, passing-in, passing-on, passing-end}
 use borrow.Author.Needs.{needs}
-use Rattle.links.proofs.find.behind.Statement.{statement}
-use Rattle.links.proofs.find.behind.Tie as tie
+use Rattle.instructions.proofs.body.behind.Statement.{statement}
+use Rattle.instructions.proofs.body.behind.Tie as tie
 
 abbrev Inv-loop : tie.InvT-loop
 Inv-loop code bodies count at₀ left₀ at left = Passing code bodies count at left

@@ -1,11 +1,11 @@
--- `find::find`: no body that was passed has the index as its key.
+-- `body::find`: no body that was passed has the index as its key.
 use native.Mathlib.Omega.{arith}
 use mathlib.Core.Path.{sym, ap}
-use Rattle.links.specs.Bodies.{foundAt}
-use Rattle.links.proofs.Bodies.{Finding, finding-from, finding-in, finding-on, finding-here, finding-none}
+use Rattle.instructions.specs.Bodies.{foundAt}
+use Rattle.instructions.proofs.Bodies.{Finding, finding-from, finding-in, finding-on, finding-here, finding-none}
 use borrow.Author.Needs.{needs}
-use Rattle.links.proofs.find.find.Statement.{statement}
-use Rattle.links.proofs.find.find.Tie as tie
+use Rattle.instructions.proofs.body.find.Statement.{statement}
+use Rattle.instructions.proofs.body.find.Tie as tie
 
 abbrev Inv-loop : tie.InvT-loop
 Inv-loop code bodies count index at₀ left₀ at left = Finding code bodies count index at left

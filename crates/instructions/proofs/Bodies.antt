@@ -1,12 +1,17 @@
--- The bodies of a PUSHI, one after the other.
+-- The bodies of a PUSHI, one after the other: the first with a key, and the place behind them, which is where bodies that were read end.
 use mathlib.Core.Path.{_≡_, refl, sym, _∙_}
-use Prim.Native.Nat.{ℕ, zero, suc, _-_, _≤_, _<_}
+use Prim.Native.Nat.{ℕ, zero, suc, _+_, _-_, _≤_, _<_}
 use native.Mathlib.Omega.{arith}
-use mathlib.Core.Option.{none, some}
+use mathlib.Core.Option.{Option, none, some}
 use mathlib.Core.List.{List}
+use lib.Dec.{leb}
 use lib.ListN.{length, getD}
-use borrow.Author.Tests.{eq-eqb, ne-eqb}
-use Rattle.links.specs.Bodies.{bodyEnd, Readable, keyPlace, placeBehind}
+use borrow.Author.Tests.{eq-eqb, ne-eqb, leb-true, leb-false}
+use Rattle.documents.specs.Instructions.{None, Program, Bodies, ReadBodies, wholeBodies, bodyThen}
+use Rattle.documents.proofs.Lists.{case, on, off}
+use Rattle.instructions.specs.Places.{programAt, bodiesAt}
+use Rattle.instructions.specs.Bodies.{bodyEnd, Readable, keyPlace, placeBehind}
+use Rattle.instructions.proofs.Reading.{nothing, bodies-done, bodies-short, bodies-step}
 
 pub readable-more : (t : List ℕ) (q c : ℕ) → Readable t q c → 0 < c → (bodyEnd t q ≤ length t) × Readable t (bodyEnd t q) (c - 1)
 readable-more t q zero r h = absurd (omega arith)
@@ -36,6 +41,39 @@ pub behind-none : (t : List ℕ) (q c : ℕ) → c ≤ 0 → placeBehind t q c �
 unfolding placeBehind
 behind-none t q zero h = refl
 behind-none t q (suc c) h = absurd (omega arith)
+
+pub behind-low : (t : List ℕ) (q c : ℕ) → q ≤ placeBehind t q c
+unfolding placeBehind
+behind-low t q zero = omega arith
+behind-low t q (suc c) = let h = behind-low t (bodyEnd t q) c in omega arith
+
+-- bodies that were read lie within the code, and what is left of the words before e begins behind them
+pub record Ends (t : List ℕ) (q e n m : ℕ) : Type 0 where
+  pub readable : Readable t q n
+  pub high : placeBehind t q n ≤ e
+  pub same : e - m ≡ placeBehind t q n
+
+pub bodies-end : {t : List ℕ} {e : ℕ} (n q : ℕ) (b : Bodies) (m : ℕ) → e ≤ length t → q ≤ e → bodiesAt t q e n ≡ some (wholeBodies b m) → Ends t q e n m
+unfolding placeBehind
+bodies-end {t} {e} zero q b m hi lo w =
+    let z : some (wholeBodies None (e - q)) ≡ some (wholeBodies b m) = sym (bodies-done t q e) ∙ w in
+    let y : e - q ≡ m = cc in
+    record { readable = tt; high = lo; same = omega arith }
+bodies-end {t} {e} (suc k) q b m hi lo w =
+    case (λ x. Ends t q e (suc k) m) (leb (bodyEnd t q) e)
+    (λ y.
+    let l = leb-true (bodyEnd t q) e (on _ y) in
+    go l (programAt t (q + 2) (bodyEnd t q)) (bodiesAt t (bodyEnd t q) e k) (λ a j h. bodies-end k (bodyEnd t q) a j hi l h) (sym (bodies-step t q e k l hi) ∙ w))
+    (λ y. nothing (sym (bodies-short t q e k (leb-false (bodyEnd t q) e (off _ y))) ∙ w))
+  where
+    go : bodyEnd t q ≤ e → (c : Option Program) (o : Option ReadBodies) → ((a : Bodies) (j : ℕ) → o ≡ some (wholeBodies a j) → Ends t (bodyEnd t q) e k j)
+        → bodyThen (getD t q 0) c o ≡ some (wholeBodies b m) → Ends t q e (suc k) m
+    go l none o f w = nothing w
+    go l (some c) none f w = nothing w
+    go l (some c) (some (wholeBodies a j)) f w =
+        let z : j ≡ m = cc in
+        let r = f a j refl in
+        record { readable = (omega arith, r .readable); high = r .high; same = rw (sym z) (r .same) }
 
 -- a walk of the bodies that looks for a key
 pub record Finding (t : List ℕ) (q₀ c₀ y q c : ℕ) : Type 0 where

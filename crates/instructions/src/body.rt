@@ -1,8 +1,7 @@
-// The bodies of a PUSHI.
+// The bodies of a PUSHI: each a key, the number of the body's words, the body.
 ghost use mathlib.Core.Path.{_≡_};
-ghost use Prim.Native.Nat.{_+_, _<_, _≤_};
-ghost use lib.ListN.{length};
-ghost use Rattle.links.specs.Bodies.{keyPlace, placeBehind, foundAt, Readable};
+ghost use Prim.Native.Nat.{_+_, _<_};
+ghost use Rattle.instructions.specs.Bodies.{keyPlace, placeBehind, foundAt, Readable};
 
 pub enum Found {
     Key(usize),

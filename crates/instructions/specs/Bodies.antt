@@ -5,8 +5,8 @@ use mathlib.Core.Option.{Option, none, some}
 use mathlib.Core.List.{List}
 use lib.Dec.{eqb}
 use lib.ListN.{length, getD}
-use Rattle.links.specs.declared.find.Found.{Found}
-use Rattle.links.specs.declared.find.Found.the-variants.{Key, Missing}
+use Rattle.instructions.specs.declared.body.Found.{Found}
+use Rattle.instructions.specs.declared.body.Found.the-variants.{Key, Missing}
 
 -- the place behind a body whose key stands at q
 abbrev pub bodyEnd : List ℕ → ℕ → ℕ
