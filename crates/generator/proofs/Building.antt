@@ -34,6 +34,10 @@ module _ {part : List ℕ} {under : ℕ} {rows : List ℕ} (g : Ready 1 part und
   pub root-words : 2 ≤ length part
   root-words = in-table part 0 (g .begins) (omega arith)
 
+  -- what falls at a call on the part behind it, which a number tells from a call on the same part
+  pub falls-inside : (j k : ℕ) {s : ℕ} → j ≤ 2 → 3 * length part + k ≡ s → 3 * length (from 2 part) + j < s
+  falls-inside j k h e = let r = root-words in rw (from-drop 2 part, length-drop 2 part) (omega arith)
+
   pub is-metavariable : 131072 ≤ getD part 0 0 → ((getD part 0 0 ≡ 196608) → ⊥) → Metavariable part
   is-metavariable lo ne = record { lowest = lo; highest = let k = last-word (walk-from (g .begins)) (omega arith) in omega arith }
 
@@ -243,6 +247,10 @@ module _ {part : List ℕ} {count under : ℕ} {rows : List ℕ} {left read : �
 
   terms-left : terms left (drop read part) ≡ Cons (front (from read part)) (terms (left - 1) (drop (read + wordCount (front (from read part))) part))
   terms-left = rw (from-drop, ← (drop-drop (wordCount (front (drop read part))) read part)) (first-left .terms-are)
+
+  -- what falls at a call on the first that is left
+  pub falls-along : {s : ℕ} → 3 * length part + 2 ≡ s → 3 * length (from read part) + 1 < s
+  falls-along e = rw (from-drop read part, length-drop read part) (omega arith)
 
   pub ready-first : Ready 1 (from read part) under rows
   ready-first = record {

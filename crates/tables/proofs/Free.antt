@@ -18,7 +18,7 @@ use Rattle.tables.specs.Parts.{terms, front, Begins, wordCount}
 use Rattle.tables.specs.declared.walk.Walked.the-variants.{Words, Stopped}
 use Rattle.tables.specs.Forbidden.{clear, looked, Small, unmarked, marked, markAll, markedWith}
 use Rattle.tables.proofs.Parts.{join, Step, step, front-term, from, from-drop}
-use Rattle.tables.proofs.Walks.{at-variable, at-abstraction, Walk, ended, Walking, walking-from, walking-on, walking-variable, walking-abstraction, walking-ended, walked-words, walked-stopped, is-words, is-stopped}
+use Rattle.tables.proofs.Walks.{at-variable, at-abstraction, Walk, walk-body, ended, Walking, walking-from, walking-on, walking-variable, walking-abstraction, walking-ended, walked-words, walked-stopped, is-words, is-stopped}
 
 -- ---- A walk of the variables
 
@@ -110,7 +110,7 @@ module _ {marks : List ℕ} {j : ℕ} {part : List ℕ} {owed at : ℕ} (l : Loo
 
   -- the body of an abstraction is a part of its own
   pub body : getD part at 0 ≡ 196608 → Begins 1 (from (at + 2) part)
-  body v = rw (from-drop (at + 2) part) (at-abstraction part at owed (l .walk .walk .begins) h v .body)
+  body v = walk-body (l .walk .walk) h v
 
   pub looking-body : (n : ℕ) → getD part at 0 ≡ 196608 → Words n ≡ looked marks (j + 1) (front (from (at + 2) part)) → Looking marks j part (owed - 1) (at + (2 + n))
   looking-body n v e =

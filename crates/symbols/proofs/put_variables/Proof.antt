@@ -27,6 +27,6 @@ put-variables-spec =
     (λ c. search needs)
     (λ c. search needs)
     (λ c. search needs)
-    (λ c. putting-on (c .before .before .loop .inv) (omega arith))
+    (λ c. putting-on (c .before .before .loop .inv) (c .before .loop-test .taken))
     (λ c. search needs)
-    (λ c. putting-ended (c .before .loop .inv) (omega arith)))
+    (λ c. putting-ended (c .before .loop .inv) (c .loop-test .left)))

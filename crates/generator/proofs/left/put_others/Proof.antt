@@ -30,4 +30,4 @@ put-others-spec =
     (λ c. search needs)
     (λ c. listing-on (c .before .before .before .before .before .before .before .loop .inv) (c .before .before .before .before .before .before .loop-test .taken) (sym (c .before .before .before .before .if1 .left) ∙ c .before .before .before .before .before .occurs-among .ensures) (c .before .before .put-one .ensures))
     (λ c. search needs)
-    (λ c. listing-ended (c .before .loop .inv) (omega arith)))
+    (λ c. listing-ended (c .before .loop .inv) (c .loop-test .left)))
