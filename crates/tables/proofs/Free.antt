@@ -4,7 +4,7 @@ use mathlib.Core.Path.{_≡_, refl, sym, ap, _∙_, fun-ext}
 use Prim.Native.Nat.{ℕ, zero, suc, _+_, _-_, _/_, _%_, _≤_, _<_, min}
 use native.Mathlib.Numerals.{add-one}
 use native.Mathlib.Omega.{arith}
-use mathlib.Core.Bool.{Bool, true, false, not, _&&_, _||_, cond}
+use mathlib.Core.Bool.{Bool, true, false, not, _&&_, _||_, cond, and-true}
 use mathlib.Core.List.{List, [], _∷_, _++_, append-assoc, append-nil}
 use lib.Dec.{eqb, ltb}
 use lib.ListN.{length, drop, getD, set, replicate, length-set, length-replicate, getD-replicate, drop-of-length-le}
@@ -13,7 +13,7 @@ use borrow.Author.Tests.{lt-ltb, le-ltb, ltb-true, eqb-true, eqb-false}
 use Rattle.documents.specs.Lists.{every, member, isEmpty}
 use Rattle.documents.specs.Terms.{Var, Nil, Cons, Term, Terms}
 use Rattle.documents.specs.Rules.{fv, freevars, closed}
-use Rattle.documents.proofs.Lists.{on, T-of, of-and, and-true, every-append}
+use Rattle.documents.proofs.Lists.{on, T-of, of-and, every-append}
 use Rattle.tables.specs.Parts.{terms, front, Begins, wordCount}
 use Rattle.tables.specs.declared.walk.Walked.the-variants.{Words, Stopped}
 use Rattle.tables.specs.Forbidden.{clear, looked, Small, unmarked, marked, markAll, markedWith}

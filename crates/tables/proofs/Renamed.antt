@@ -4,7 +4,7 @@ use mathlib.Core.Path.{_≡_, refl, sym, ap, ap₂, _∙_}
 use Prim.Native.Nat.{ℕ, zero, suc, _+_, _-_, _/_, _%_, _≤_, _<_}
 use native.Mathlib.Numerals.{add-one}
 use native.Mathlib.Omega.{arith}
-use mathlib.Core.Bool.{Bool, true, false, _&&_, cond, and-false}
+use mathlib.Core.Bool.{Bool, true, false, _&&_, cond, and-false, and-true, and-assoc}
 use mathlib.Core.List.{List, [], _∷_}
 use lib.Dec.{eqb, ltb}
 use lib.ListN.{length, drop, getD, length-drop}
@@ -13,7 +13,7 @@ use Rattle.documents.specs.Terms.{Sort, Tm, Var, Sym, Meta, Abst, Nil, Cons, Te
 use Rattle.documents.specs.Tables.{nodes}
 use Rattle.documents.specs.Instructions.{pairsIn}
 use Rattle.documents.specs.Machine.{isVar, equal, renaming, equalUnder}
-use Rattle.documents.proofs.Lists.{never, on, and-assoc, and-true}
+use Rattle.documents.proofs.Lists.{never}
 use Rattle.documents.proofs.Substitution.{rename-ext, rename-id}
 use Rattle.documents.proofs.Paper.{equal-is}
 use Rattle.tables.specs.Parts.{terms, front, Begins, wordCount}
@@ -60,7 +60,7 @@ module _ (ps : List (ℕ × ℕ)) (D : ℕ) where
   equal-join j Nil (Cons u us) xs ys l = absurd (omega arith)
   equal-join j (Cons t ts) Nil xs ys l = absurd (omega arith)
   equal-join j (Cons t ts) (Cons u us) xs ys l =
-      rw (equal-join j ts us xs ys (omega arith)) (and-assoc (equalUnder ps D j t u) (equalUnder ps D j ts us) (equalUnder ps D j xs ys))
+      rw (equal-join j ts us xs ys (omega arith)) (sym (and-assoc (equalUnder ps D j t u) (equalUnder ps D j ts us) (equalUnder ps D j xs ys)))
 
   unequal-length : (j : ℕ) (ts us : Terms) → ((len ts ≡ len us) → ⊥) → equalUnder ps D j ts us ≡ false
   unequal-length j Nil Nil h = absurd (h refl)

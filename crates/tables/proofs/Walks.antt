@@ -8,7 +8,7 @@ use mathlib.Core.Bool.{Bool, true, false}
 use mathlib.Core.List.{List}
 use lib.ListN.{length, drop, getD, length-drop}
 use lib.Seq.{drop-drop}
-use Rattle.documents.specs.Terms.{Sort, many, Tm, Var, Abst, Nil, Cons, Term, Terms, len}
+use Rattle.documents.specs.Terms.{Sort, Tm, Var, Abst, Nil, Cons, Term, Terms, len}
 use Rattle.documents.specs.Tables.{nodes}
 use Rattle.documents.proofs.Lists.{never}
 use Rattle.tables.specs.declared.walk.Walked.the-variants.{Words, Stopped}

@@ -1,7 +1,6 @@
 -- `each_among` meets its contract: whether the keys still to be asked for are on the left is what was asked of all.
 use mathlib.Core.Path.{sym, _∙_}
 use Prim.Native.Nat.{_-_}
-use native.Mathlib.Omega.{arith}
 use lib.ListN.{length}
 use borrow.Author.Tests.{not-true, not-false}
 use Rattle.keys.proofs.Among.{Asking, asking-from, asking-missing, asking-on, asking-ended}

@@ -1,6 +1,5 @@
 -- `is_among` meets its contract: whether the key is among those still to be looked at is what was asked of all.
 use Prim.Native.Nat.{_-_}
-use native.Mathlib.Omega.{arith}
 use lib.ListN.{length}
 use Rattle.keys.proofs.Among.{Looking, looking-from, looking-found, looking-on, looking-ended}
 use borrow.Author.Needs.{needs}

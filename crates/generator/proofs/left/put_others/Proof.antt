@@ -2,7 +2,6 @@
 -- list, any other is its next word.
 use mathlib.Core.Path.{sym, _∙_}
 use Prim.Native.Nat.{_-_}
-use native.Mathlib.Omega.{arith}
 use Rattle.generator.proofs.Matching.{Listing, listing-from, listing-over, listing-fits, listing-on, listing-ended}
 use borrow.Author.Needs.{needs}
 use Rattle.generator.proofs.left.put_others.Statement.{statement}

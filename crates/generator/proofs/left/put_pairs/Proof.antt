@@ -1,6 +1,5 @@
 -- `left::put_pairs` meets its contract. The pairs of the arguments that are left are still to be written, and the first of them is an old index and
 -- a new one.
-use native.Mathlib.Omega.{arith}
 use lib.ListN.{take}
 use Rattle.documents.specs.Translation.{unvar}
 use Rattle.documents.specs.Instructions.{pairWords}

@@ -1,8 +1,7 @@
 -- `compare::compare_under` meets its contract. Both walks stand at the same place and owe as many terms, and whether those agree is what was asked of
 -- the first two: bodies that agree are equally long. What falls from call to call is the old part's length.
 use mathlib.Core.Path.{sym, _∙_}
-use Prim.Native.Nat.{_+_, _-_, ℕ, _<_}
-use native.Mathlib.Omega.{arith}
+use Prim.Native.Nat.{_-_, ℕ, _<_}
 use lib.ListN.{length}
 use borrow.Author.Tests.{not-true, not-false}
 use borrow.Author.Needs.{needs}

@@ -1,7 +1,6 @@
 -- `side::distinct_variables` meets its contract. All terms are variables by the first call; whether those left are distinct is what was asked of
 -- all, since each that was passed is not among the ones behind it.
 use mathlib.Core.Path.{_≡_, refl, sym, _∙_}
-use native.Mathlib.Omega.{arith}
 use mathlib.Core.Bool.{true}
 use lib.ListN.{drop}
 use borrow.Author.Tests.{not-true, not-false}

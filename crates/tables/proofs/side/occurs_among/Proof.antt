@@ -2,7 +2,6 @@
 -- index; whether the index is among those left is what was asked of all.
 use borrow.Author.Tests.{eq-eqb, ne-eqb}
 use mathlib.Core.Path.{_≡_, refl}
-use native.Mathlib.Omega.{arith}
 use mathlib.Core.Bool.{true}
 use lib.ListN.{drop}
 use Rattle.documents.specs.Lists.{member}
