@@ -9,7 +9,7 @@ use mathlib.Core.Bool.{Bool, true, false, not}
 use mathlib.Core.Option.{Option}
 use mathlib.Core.List.{List, [], _∷_, _++_}
 use lib.Dec.{ltb}
-use lib.ListN.{length, take, drop, getD, length-drop, List·getD-append}
+use lib.ListN.{length, take, drop, getD, length-drop, drop-of-length-le, List·getD-append}
 use lib.Seq.{drop-cons, drop-drop, sets, getD-at, getD-drop, length-take-le}
 use borrow.Author.Tests.{lt-ltb, le-ltb, ltb-true, ltb-false}
 use Rattle.documents.specs.Lists.{keep, member, upTo, pairlists}
@@ -104,13 +104,7 @@ pub from-index : (n i : ℕ) → i < n → drop i (upTo n) ≡ i ∷ drop (i + 1
 from-index n i h = let l = length-upTo n in let k : i < length (upTo n) = omega arith in rw (drop-cons (upTo n) i 0, getD-upTo n i h, add-one i)
 
 pub no-index : (n i : ℕ) → n ≤ i → drop i (upTo n) ≡ []
-no-index n i h = let l = length-upTo n in drop-past (upTo n) i (omega arith)
-  where
-    drop-past : (l : List ℕ) (i : ℕ) → length l ≤ i → drop i l ≡ []
-    drop-past [] zero h = refl
-    drop-past [] (suc i) h = refl
-    drop-past (x ∷ l) zero h = absurd (omega arith)
-    drop-past (x ∷ l) (suc i) h = drop-past l i (omega arith)
+no-index n i h = let l = length-upTo n in drop-of-length-le (upTo n) {i = i} (omega arith)
 
 freevars-unvar : (ts : Terms) → areVars ts ≡ true → freevars ts ≡ unvar ts
 freevars-unvar Nil e = refl

@@ -21,6 +21,7 @@ use Rattle.documents.specs.Rules.{metas}
 use Rattle.documents.specs.Numbers.{Answer, answered, refused, unless, orRefuse, with, tableIn, subjectIn}
 use Rattle.documents.proofs.Lists.{never, on, T-of, of-and, andThen-is}
 pub use Rattle.documents.proofs.Lists.{leb-max}
+pub use Rattle.documents.proofs.Nodes.{depth-positive}
 use Rattle.documents.proofs.Tables.{before, tableOf-termIn, length-tableOf, termsIn-tableOf, termsIn-tablesOf, subterm-place}
 use Rattle.documents.proofs.Numbers.{tableIn-held, subjectIn-held}
 use Rattle.tables.specs.Parts.{held, firstTerms, terms, front, Begins, wordCount}
@@ -266,12 +267,6 @@ listed-set above (suc k) m v h = ap₂ (λ (x : ℕ) (l : List ℕ). x ∷ l) (g
 abbrev pub total : List ℕ → ℕ
 total [] = 0
 total (n ∷ ns) = n + total ns
-
-pub depth-positive : (t : Term) → 0 < depth t
-depth-positive (Var x) = omega arith
-depth-positive (Sym s ts) = omega arith
-depth-positive (Meta z ts) = omega arith
-depth-positive (Abst t) = omega arith
 
 -- Where the walk of a table's levels stands: `owed` terms at the innermost level, and above it those of each open one.
 pub record Levels (table : List ℕ) (above : List ℕ) (level owed at : ℕ) : Type 0 where
