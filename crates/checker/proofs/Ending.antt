@@ -240,9 +240,9 @@ pub record Bodied (t : List ℕ) (a₀ e c₀ : ℕ) (es : List Slot) (l nest b 
 
 module _ {t : List ℕ} {a₀ e c₀ : ℕ} {es : List Slot} {l nest b m₀ a c m : ℕ} (g : Bodied t a₀ e c₀ es l nest b m₀ a c m) where
   -- all are there
-  module _ (z : c ≡ 0) where
+  module _ (none-left : c ≤ 0) where
     all-there : bodiesObey t a₀ e c₀ es l nest b m₀ ≡ placeIf (full m b) a
-    all-there = g .same ∙ rw z (obey-done t e es l nest b a m (g .within))
+    all-there = let z : c ≡ 0 = omega arith in g .same ∙ rw z (obey-done t e es l nest b a m (g .within))
 
     pub obey-bare : full m b ≡ false → place.Refused DoesNotPass ≡ bodiesObey t a₀ e c₀ es l nest b m₀
     obey-bare q = sym (all-there ∙ rw q)

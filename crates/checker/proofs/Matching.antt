@@ -323,7 +323,10 @@ module _ {t current : List ℕ} {terms : ℕ} {n : Entries} {guard a : ℕ} (m :
       matched-bare z = rw (m .same ∙ ap (λ (k : ℕ). passesAt t a (matching (stacked k current) (m .es) (m .g))) z ∙ passes-bare t a lo (m .es) (m .g) w)
 
       -- a turn, with the top at depth d
-      module _ {d : ℕ} (k : 0 < terms) (top : d ≡ getD current (terms - 1) 0) where
+      module _ {d : ℕ} (z : terms ≡ 0 → ⊥) (top : d ≡ getD current (terms - 1) 0) where
+        k : 0 < terms
+        k = omega (arith, z)
+
         turned-to : passesAt t 0 (matching (0 ∷ []) [] [])
             ≡ turnedOn (turnAt t a d (terms - 1) (m .es)) (λ p c b.
             passesAt t p (matching (times c b (stacked (terms - 1) current)) (entriesPut (getD t a 0) d (m .g) (m .es)) (listBehind t a)))

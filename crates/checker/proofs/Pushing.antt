@@ -2,7 +2,7 @@
 use mathlib.Core.Path.{_≡_, refl, sym, ap, _∙_}
 use Prim.Native.Nat.{ℕ, suc, _+_, _-_, _≤_, _<_}
 use native.Mathlib.Omega.{arith}
-use mathlib.Core.Bool.{Bool, true, false, not, _&&_, cond, and-false}
+use mathlib.Core.Bool.{Bool, true, false, not, _&&_, cond, and-false, and-true, and-assoc}
 use mathlib.Core.Option.{Option, none, some}
 use mathlib.Core.List.{List, [], _∷_}
 use lib.Dec.{eqb, leb, ltb}
@@ -13,7 +13,7 @@ use Rattle.documents.specs.declared.Refusal.the-variants.{DoesNotPass}
 use Rattle.documents.specs.Lists.{need, andThen}
 use Rattle.documents.specs.Instructions.{PUSHI, Program, Bodies, ReadBodies, wholeBodies, bodyCount, keys, bodyThen}
 use Rattle.documents.specs.Passing.{Slot, slot, withSlot, covers, allBelow, oneTerm, build}
-use Rattle.documents.proofs.Lists.{never, case, and-true, and-assoc, on, off}
+use Rattle.documents.proofs.Lists.{never, case, on, off}
 use Rattle.instructions.specs.declared.Place.{Place}
 use Rattle.instructions.specs.declared.Place.the-variants as place
 use Rattle.instructions.specs.Places.{programAt, bodiesAt, placeIf}
@@ -144,7 +144,7 @@ module _ (t : List ℕ) (a e : ℕ) (n : Entries) (l nest : ℕ) where
           le-leb (getD t (a + 2) 0) 8 h,
           eq-eqb (getD t (a + 1) 0 + b) (l + 64) q,
           covers-members b g (keys o),
-          and-assoc (allBelow b (keys o)) (full (gathered g (keys o)) b) (build (entriesOf n) true l nest o),
+          ← (and-assoc (allBelow b (keys o)) (full (gathered g (keys o)) b) (build (entriesOf n) true l nest o)),
         )))
 
 -- ---- where it ends, and what it makes

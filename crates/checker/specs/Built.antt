@@ -8,7 +8,7 @@ use lib.Dec.{eqb, ltb}
 use lib.ListN.{length, getD}
 use Rattle.documents.specs.declared.Refusal.the-variants.{DoesNotPass}
 use Rattle.documents.specs.Lists.{andThen}
-use Rattle.documents.specs.Instructions.{CELL, PUSHVAR, PUSHIMM, PUSHI, Bodies, ReadBodies, wholeBodies, opCELL, opPUSHVAR, opPUSHIMM, keys}
+use Rattle.documents.specs.Instructions.{CELL, PUSHVAR, PUSHI, Bodies, ReadBodies, wholeBodies, opCELL, opPUSHVAR, opPUSHIMM, keys}
 use Rattle.documents.specs.Passing.{Slot, allBelow, oneTerm, build}
 use Rattle.instructions.specs.declared.Place.{Place}
 use Rattle.instructions.specs.declared.Place.the-variants as place

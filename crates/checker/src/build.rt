@@ -225,11 +225,13 @@ fn bodies(
         if MOST_NESTED <= nest {
             return Place::Refused(Refusal::DoesNotPass);
         }
-        let Ended::Done = build(code, at + 2, at + 2 + words, entries, l, nest + 1) else {
+        let body = at + 2;
+        let behind = body + words;
+        let Ended::Done = build(code, body, behind, entries, l, nest + 1) else {
             return Place::Refused(Refusal::DoesNotPass);
         };
         keys = insert(keys, key);
-        at = at + 2 + words;
+        at = behind;
         left -= 1;
     }
     if !all_below(keys, b) {

@@ -64,12 +64,13 @@ fn obeys(code: &[u32]) -> Checked
         if terms == 0 {
             return Checked::Refused(Refusal::DoesNotPass);
         }
-        let d = current[terms - 1];
-        let Turned::To(next, n, depth) = turn(code, at, entries, d, terms - 1) else {
+        let top = terms - 1;
+        let d = current[top];
+        let Turned::To(next, n, depth) = turn(code, at, entries, d, top) else {
             return Checked::Refused(Refusal::DoesNotPass);
         };
-        put(&mut current[terms - 1..terms - 1 + n], depth);
-        terms = terms - 1 + n;
+        terms = top + n;
+        put(&mut current[top..terms], depth);
         if op == SET {
             let made = entries.count;
             entries.depths[made] = d;

@@ -17,9 +17,9 @@ use Rattle.documents.specs.Instructions.{CELL, ADBMAL, End, _▸_, None, Body, 
 use Rattle.documents.specs.Translation.{Row, Located, lookup, _⧺_, offset, Built, joined, keyed, rhsMeta, rhs}
 use Rattle.documents.specs.Passing.{openLimit, pairLimit, nestLimit, Slot, covers, allBelow, build}
 use Rattle.documents.proofs.Lists.{on, andThen-assoc}
+use Rattle.documents.proofs.Nodes.{depth-positive}
 use Rattle.documents.proofs.Translation.{keys-keyed}
 use Rattle.kahrs.proofs.RightSide.{AllMetas, Below, below-abst}
-use Rattle.kahrs.proofs.Simple.{depth-term}
 use Rattle.kahrs.proofs.Known.{Known}
 use Rattle.compiled.proofs.Unlisted.{unlisted, unlisted-covers, under-below}
 use Rattle.compiled.proofs.Rows.{slots, RowsGood, Found, absent, present, found}
@@ -103,7 +103,7 @@ module _ (tab : List Row) (good : RowsGood tab) where
       meta-makes n m (len ts) (rhs tab n ts) (lookup z (len ts) tab) (omega arith) (f .1) (count-rhs tab n ts) (k .0) (found z (len ts) tab good)
       (right-makes n (m + 1) ts (omega arith) (omega arith) b (f .2) (k .1))
   right-makes n m (Abst t) o d b f k = λ inside l nest h hs p q.
-      let j = depth-term t in
+      let j = depth-positive t in
       rw (
         lt-ltb (l + (suc (length hs) - 1)) openLimit (omega arith),
         lt-ltb (nest + (suc (length hs) - 1)) nestLimit (omega arith),

@@ -1,16 +1,16 @@
 -- Tests and answers: what a test that passed says, and what an answer that came through a test says.
-use mathlib.Core.Path.{_≡_, refl, ap, fun-ext}
-use Prim.Native.Nat.{ℕ, _+_, _<_}
+use mathlib.Core.Path.{_≡_, refl, sym, ap, fun-ext}
+use Prim.Native.Nat.{ℕ, _+_, _<_, max}
 use native.Mathlib.Numerals.{add-one}
 use native.Mathlib.Omega.{arith}
-use mathlib.Core.Bool.{Bool, true, false, not, _&&_, cond}
+use mathlib.Core.Bool.{Bool, true, false, not, _&&_, _||_, cond, or-assoc}
 use mathlib.Core.Option.{Option, none, some}
 use mathlib.Core.List.{List, [], _∷_, _++_}
-use lib.Dec.{T, eqb}
+use lib.Dec.{T, eqb, leb}
 use lib.ListN.{length, getD, drop}
 use lib.Seq.{drop-cons}
-use borrow.Author.Tests.{eqb-true}
-use Rattle.documents.specs.Lists.{every, need, andThen}
+use borrow.Author.Tests.{eqb-true, leb-true, leb-false, le-leb, lt-leb}
+use Rattle.documents.specs.Lists.{every, member, need, andThen}
 
 -- where two constructors were said to be equal, `cc` proves this
 pub never : {A : Type 0} → _≡_ {A = ℕ} 0 1 → A
@@ -61,6 +61,18 @@ and-true false = refl
 pub every-append : {A : Type 0} (p : A → Bool) (l m : List A) → every p (l ++ m) ≡ every p l && every p m
 every-append p [] m = refl
 every-append p (a ∷ l) m = rw (every-append p l m) (and-assoc (p a) (every p l) (every p m))
+
+pub member-append : (l m : List ℕ) (y : ℕ) → member (l ++ m) y ≡ member l y || member m y
+member-append [] m y = refl
+member-append (v ∷ l) m y = rw (member-append l m y) (sym (or-assoc (eqb v y) (member l y) (member m y)))
+
+pub leb-max : (x y l : ℕ) → leb (max x y) l ≡ leb x l && leb y l
+leb-max x y l = go (leb x l) (leb y l) refl refl
+  where
+    go : (p q : Bool) → leb x l ≡ p → leb y l ≡ q → leb (max x y) l ≡ p && q
+    go true true p q = let a = leb-true x l p in let b = leb-true y l q in le-leb (max x y) l (omega arith)
+    go true false p q = let b = leb-false y l q in lt-leb (max x y) l (omega arith)
+    go false q p _ = let a = leb-false x l p in lt-leb (max x y) l (omega arith)
 
 -- ---- Answers that may be missing
 

@@ -10,7 +10,7 @@ use lib.ListN.{getElem?}
 use borrow.Author.Tests.{lt-ltb, le-ltb, ltb-true, ltb-false, eqb-true}
 use Rattle.documents.specs.Lists.{every, member}
 use Rattle.documents.specs.Terms.{Sort, Tm, Var, Sym, Meta, Abst, Nil, Cons, Term, Terms, len, rename}
-use Rattle.documents.specs.Tables.{nodes, subterm}
+use Rattle.documents.specs.Tables.{nodes, depth, subterm}
 use Rattle.documents.specs.Rules.{freevars}
 use Rattle.documents.specs.Instructions.{IS, ISABST, NEXT, CHECK, SET, EQVAR, EQIMM, EQI, CELL, LAMBDA, ADBMAL, PUSHVAR, PUSHIMM, PUSHI, Instruction}
 use Rattle.documents.specs.Machine.{Current, current, Entry, entry, State, state, Outcome, done, noStep, test, orFails, orNoStep, Action, argumentsOf, bodyOf, isVar, equal, placed, firsts, renaming, eqi, eqimm, currents, withCurrent, exec, start}
@@ -24,6 +24,12 @@ nodes-positive (Var x) = omega arith
 nodes-positive (Sym s ts) = omega arith
 nodes-positive (Meta z ts) = omega arith
 nodes-positive (Abst t) = omega arith
+
+pub depth-positive : (t : Term) → 0 < depth t
+depth-positive (Var x) = omega arith
+depth-positive (Sym s ts) = omega arith
+depth-positive (Meta z ts) = omega arith
+depth-positive (Abst t) = omega arith
 
 pub len-nodes : (ts : Terms) → len ts ≤ nodes ts
 len-nodes Nil = omega arith

@@ -15,9 +15,9 @@ use Rattle.documents.specs.Translation.{Located, located, lookup, joined, keyed
 use Rattle.documents.proofs.Lists.{never}
 use Rattle.compiled.proofs.Length.{count-rhs}
 use Rattle.tables.specs.Parts.{terms, front, Begins, wordCount}
-use Rattle.tables.proofs.Parts.{begins-less, Passed, passed, no-terms, front-term, words-fit, in-table, from, from-drop}
-use Rattle.tables.proofs.Walks.{at-abstraction, walk-from}
-use Rattle.tables.proofs.Fronts.{last-word, root, arguments-begin, argument-count, front-variable, front-symbol, front-metavariable, front-abstraction}
+use Rattle.tables.proofs.Parts.{begins-less, Passed, passed, no-terms, front-term, words-fit, from, from-drop}
+use Rattle.tables.proofs.Walks.{at-abstraction}
+use Rattle.tables.proofs.Fronts.{root-words, root, arguments-begin, argument-count, front-variable, front-symbol, front-metavariable, front-abstraction}
 use Rattle.symbols.specs.Rows.{rowsIn, foundIn}
 use Rattle.symbols.specs.declared.Found.the-variants.{At, Nothing}
 use Rattle.symbols.proofs.Located.{Entry, entry}
@@ -30,12 +30,9 @@ use Rattle.generator.proofs.Written.{words-⧺, Writing, writing-from, 
 -- ---- The node that a part begins with
 
 module _ {part : List ℕ} {under : ℕ} {rows : List ℕ} (g : Ready 1 part under rows) where
-  -- a node has two words
-  pub root-words : 2 ≤ length part
-  root-words = in-table part 0 (g .begins) (omega arith)
-
-  pub is-metavariable : 131072 ≤ getD part 0 0 → ((getD part 0 0 ≡ 196608) → ⊥) → Metavariable part
-  is-metavariable lo ne = record { lowest = lo; highest = let k = last-word (walk-from (g .begins)) (omega arith) in omega arith }
+  -- what falls at a call on the part behind it, which a number tells from a call on the same part
+  pub falls-inside : (j k : ℕ) {s : ℕ} → j ≤ 2 → 3 * length part + k ≡ s → 3 * length (from 2 part) + j < s
+  falls-inside j k h e = let r = root-words (g .begins) in rw (from-drop 2 part, length-drop 2 part) (omega arith)
 
   -- the arguments are read with the same rows
   pub ready-arguments : Ready (getD part 1 0) (from 2 part) under rows
@@ -50,7 +47,7 @@ module _ {part : List ℕ} {under : ℕ} {rows : List ℕ} (g : Ready 1 part und
   pub ready-body : getD part 0 0 ≡ 196608 → Ready 1 (from 2 part) (under + 1) rows
   ready-body v = record {
     begins = rw from-drop (at-abstraction part 0 1 (g .begins) (omega arith) v .body);
-    shallow = let s = g .shallow in let r = root-words in rw (from-drop, length-drop) (omega arith);
+    shallow = let s = g .shallow in let r = root-words (g .begins) in rw (from-drop, length-drop) (omega arith);
     low = g .low;
     few = g .few;
   }
@@ -61,7 +58,7 @@ module _ {part : List ℕ} {under : ℕ} {rows : List ℕ} (g : Ready 1 part und
       let e = rw from-drop at (r .read) in
       let f = words-fit (getD part 1 0) (drop 2 part) (arguments-begin (g .begins)) .1 in
       let l = length-drop 2 part in
-      let w = root-words in
+      let w = root-words (g .begins) in
       omega arith
 
   pub body-within : {ws old new : List ℕ} {at : ℕ} {built : Built} → getD part 0 0 ≡ 196608 → Builds (front (from 2 part)) ws old new at built → 2 + built .read ≤ length part
@@ -71,7 +68,7 @@ module _ {part : List ℕ} {under : ℕ} {rows : List ℕ} (g : Ready 1 part und
       let n = ap (λ (ts : Terms). nodes ts) (front-term (drop 2 part) b) in
       let f = words-fit 1 (drop 2 part) b .1 in
       let l = length-drop 2 part in
-      let w = root-words in
+      let w = root-words (g .begins) in
       omega arith
 
 -- ---- A variable
@@ -243,6 +240,10 @@ module _ {part : List ℕ} {count under : ℕ} {rows : List ℕ} {left read : �
 
   terms-left : terms left (drop read part) ≡ Cons (front (from read part)) (terms (left - 1) (drop (read + wordCount (front (from read part))) part))
   terms-left = rw (from-drop, ← (drop-drop (wordCount (front (drop read part))) read part)) (first-left .terms-are)
+
+  -- what falls at a call on the first that is left
+  pub falls-along : {s : ℕ} → 3 * length part + 2 ≡ s → 3 * length (from read part) + 1 < s
+  falls-along e = rw (from-drop read part, length-drop read part) (omega arith)
 
   pub ready-first : Ready 1 (from read part) under rows
   ready-first = record {

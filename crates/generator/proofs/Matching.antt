@@ -9,7 +9,7 @@ use mathlib.Core.Bool.{Bool, true, false, not}
 use mathlib.Core.Option.{Option}
 use mathlib.Core.List.{List, [], _∷_, _++_}
 use lib.Dec.{ltb}
-use lib.ListN.{length, take, drop, getD, length-drop, List·getD-append}
+use lib.ListN.{length, take, drop, getD, length-drop, drop-of-length-le, List·getD-append}
 use lib.Seq.{drop-cons, drop-drop, sets, getD-at, getD-drop, length-take-le}
 use borrow.Author.Tests.{lt-ltb, le-ltb, ltb-true, ltb-false}
 use Rattle.documents.specs.Lists.{keep, member, upTo, pairlists}
@@ -20,16 +20,16 @@ use Rattle.documents.specs.Instructions.{End, _▸_, Program, words, pairWords}
 use Rattle.documents.specs.Translation.{Row, row, Located, lookup, unvar, _⧺_, bvset, lhsMeta, setsLess, setsAfter, lhs}
 use Rattle.documents.proofs.Translation.{⧺-assoc}
 use Rattle.documents.proofs.Lists.{never}
-use Rattle.kahrs.proofs.Simple.{vars, len-vars, unvar-vars, Simple}
+use Rattle.kahrs.proofs.Simple.{len-vars, unvar-vars, Simple}
 use Rattle.compiled.proofs.Unlisted.{unlisted, unlisted-others, length-upTo}
 use Rattle.tables.specs.Parts.{terms, front, Begins, wordCount}
 use Rattle.tables.proofs.Parts.{join, Step, step, begins-less, passed, words-fit, in-table, no-terms, front-term}
 use Rattle.tables.proofs.Walks.{at-variable, at-abstraction, Walk, walk-from, walk-variable, ended, Walking, walking-from, walking-on, walking-term, walking-ended}
 use Rattle.tables.proofs.Sides.{is-variable, variables-behind}
-use Rattle.tables.proofs.Fronts.{last-word, root, arguments-begin, argument-count, front-metavariable, front-abstraction}
+use Rattle.tables.proofs.Fronts.{root-words, below-abstraction, root, arguments-begin, argument-count, front-metavariable, front-abstraction}
 use Rattle.symbols.specs.declared.Found.the-variants.{At, Nothing}
 use Rattle.symbols.specs.Rows.{rowsIn, foundIn}
-use Rattle.symbols.proofs.Entering.{simple-join, nodes-vars}
+use Rattle.symbols.proofs.Entering.{areVars-vars, simple-join, nodes-vars}
 use Rattle.symbols.proofs.Located.{is-nothing, Entry, entry}
 use Rattle.generator.specs.declared.left.Matched.{Matched}
 use Rattle.generator.specs.Written.{Fits, Wrote}
@@ -104,13 +104,7 @@ pub from-index : (n i : ℕ) → i < n → drop i (upTo n) ≡ i ∷ drop (i + 1
 from-index n i h = let l = length-upTo n in let k : i < length (upTo n) = omega arith in rw (drop-cons (upTo n) i 0, getD-upTo n i h, add-one i)
 
 pub no-index : (n i : ℕ) → n ≤ i → drop i (upTo n) ≡ []
-no-index n i h = let l = length-upTo n in drop-past (upTo n) i (omega arith)
-  where
-    drop-past : (l : List ℕ) (i : ℕ) → length l ≤ i → drop i l ≡ []
-    drop-past [] zero h = refl
-    drop-past [] (suc i) h = refl
-    drop-past (x ∷ l) zero h = absurd (omega arith)
-    drop-past (x ∷ l) (suc i) h = drop-past l i (omega arith)
+no-index n i h = let l = length-upTo n in drop-of-length-le (upTo n) {i = i} (omega arith)
 
 freevars-unvar : (ts : Terms) → areVars ts ≡ true → freevars ts ≡ unvar ts
 freevars-unvar Nil e = refl
@@ -236,10 +230,6 @@ module _ {row arguments code : List ℕ} {count under entry at : ℕ} (o : Later
 
 -- ---- A metavariable of a left side
 
-vars-are : (l : List ℕ) → areVars (vars l) ≡ true
-vars-are [] = refl
-vars-are (x ∷ l) = vars-are l
-
 -- a part that begins with a metavariable, under so many abstractions
 pub record MetaAt (part : List ℕ) (under : ℕ) : Type 0 where
   pub term : front part ≡ Meta (getD part 0 0 - 131072) (terms (getD part 1 0) (drop 2 part))
@@ -267,7 +257,7 @@ meta-at {part} {under} b i s =
           omega arith;
       within = omega arith;
       first = record {
-        variables = record { begins = arguments-begin b; variables = ap areVars e ∙ vars-are l };
+        variables = record { begins = arguments-begin b; variables = ap areVars e ∙ areVars-vars l };
         others =
             let u = unlisted-others under l (v .2) (v .3) in
             let q : length (bvset under (terms (getD part 1 0) (drop 2 part))) ≡ length (unlisted under l) = ap (λ (is : List ℕ). length (unlisted under is)) (ap unvar e ∙ unvar-vars l) in
@@ -492,13 +482,10 @@ module _ {part rows old new : List ℕ} {under sets₀ at owed read sets place :
 
 -- ---- An abstraction or a metavariable
 
+pub is-metavariable : {part : List ℕ} → Begins 1 part → 131072 ≤ getD part 0 0 → (getD part 0 0 ≡ 196608 → ⊥) → Metavariable part
+is-metavariable b lo ne = record { lowest = lo; highest = below-abstraction b ne }
+
 module _ {part rows code : List ℕ} {under sets at : ℕ} (a : Asked part rows code under sets at) where
-  pub term-words : 2 ≤ length part
-  term-words = in-table part 0 (a .begins) (omega arith)
-
-  pub is-metavariable : 131072 ≤ getD part 0 0 → (getD part 0 0 ≡ 196608 → ⊥) → Metavariable part
-  is-metavariable lo ne = let k = last-word (walk-from (a .begins)) (omega arith) in record { lowest = lo; highest = omega arith }
-
   module _ (v : getD part 0 0 ≡ 196608) where
     body-is : front part ≡ Abst (front (drop 2 part))
     body-is = front-abstraction (a .begins) v
@@ -544,6 +531,6 @@ module _ {part rows code : List ℕ} {under sets at : ℕ} (a : Asked part rows 
           let f = words-fit 1 (drop 2 part) b .1 in
           let n : nodes (terms 1 (drop 2 part)) ≡ nodes (front (drop 2 part)) + 0 = ap (λ (x : Terms). nodes x) (front-term (drop 2 part) b) in
           let l = length-drop 2 part in
-          let w = term-words in
+          let w = root-words (a .begins) in
           let q = d .read in
           omega arith

@@ -2,7 +2,7 @@
 use mathlib.Core.Path.{_≡_, refl, sym, ap, _∙_, fun-ext}
 use Prim.Native.Nat.{ℕ, zero, suc, _+_, _-_, _*_, _/_, _%_, _^_, _≤_, _<_, max}
 use native.Mathlib.Omega.{arith}
-use mathlib.Core.Bool.{Bool, true, false, _&&_, _||_, or-assoc, or-false, and-false}
+use mathlib.Core.Bool.{Bool, true, false, _&&_, _||_, or-assoc, or-false, and-false, and-true}
 use mathlib.Core.List.{List, [], _∷_}
 use lib.Dec.{eqb, ltb}
 use lib.Bits.{bitOr, or-step, or-shr, and-mask, mask-lt}
@@ -10,7 +10,7 @@ use lib.Pow.{pow-pos, pow-lt, pow-add, split, mod-pow-add, shl-shr}
 use borrow.Author.Tests.{eq-eqb, ne-eqb, eqb-true, ltb-true, ltb-false}
 use Rattle.documents.specs.Lists.{every, member, upTo}
 use Rattle.documents.specs.Passing.{covers}
-use Rattle.documents.proofs.Lists.{never, on, off, case, and-true, every-append}
+use Rattle.documents.proofs.Lists.{never, on, off, case, every-append}
 use Rattle.kahrs.proofs.Places.{member-upTo, member-keep}
 use Rattle.indices.specs.Sets.{has, members, inserted, gathered, full}
 

@@ -6,14 +6,14 @@ use Prim.Native.Nat.{ℕ, zero, suc, _+_, _≤_, _<_}
 use native.Mathlib.Omega.{arith}
 use mathlib.Core.Bool.{Bool, true, false, not, _&&_, _||_, cond}
 use mathlib.Core.Option.{some}
-use mathlib.Core.List.{List, [], _∷_, _++_}
+use mathlib.Core.List.{List, [], _∷_}
 use lib.Dec.{T, eqb, leb, ltb, leb→le, le→leb, eqb→eq, eqb-refl}
 use lib.ListN.{length}
 use borrow.Author.Tests.{ltb-true, ltb-false, lt-ltb, le-ltb, le-leb, lt-leb, eqb-true, eqb-false, eq-eqb, ne-eqb}
 use Rattle.documents.specs.Lists.{keep, member, isset, upTo, pairlists, assoc}
 use Rattle.documents.specs.Machine.{firsts, orMoved, renaming}
 use Rattle.documents.specs.Translation.{offset}
-use Rattle.documents.proofs.Lists.{of-and, case}
+use Rattle.documents.proofs.Lists.{of-and, case, member-append}
 use Rattle.kahrs.proofs.RightSide.{place, covered}
 
 -- the x-th argument, or past the arguments a variable outside of the n abstractions
@@ -96,14 +96,6 @@ firsts-pairlists (a ∷ l′) [] e = absurd (omega arith)
 firsts-pairlists (a ∷ l′) (c ∷ l) e = ap {B = List ℕ} (λ k. a ∷ k) (firsts-pairlists l′ l (omega arith))
 
 -- ---- A CHECK's list
-
-pub member-append : (l m : List ℕ) (y : ℕ) → member (l ++ m) y ≡ member l y || member m y
-member-append [] m y = refl
-member-append (a ∷ l) m y = rw (member-append l m y) (or-assoc (eqb a y) (member l y) (member m y))
-  where
-    or-assoc : (a b c : Bool) → a || (b || c) ≡ (a || b) || c
-    or-assoc true b c = refl
-    or-assoc false b c = refl
 
 pub member-upTo : (n y : ℕ) → member (upTo n) y ≡ ltb y n
 member-upTo zero y = let h : 0 ≤ y = omega arith in rw (le-ltb y 0 h)

@@ -14,6 +14,7 @@ use Rattle.documents.specs.Tables.{depth}
 use Rattle.documents.specs.Rules.{Val, freevars, areVars, simple, closed}
 use Rattle.documents.specs.Translation.{Row, unvar, update}
 use Rattle.documents.proofs.Lists.{of-and}
+use Rattle.documents.proofs.Nodes.{depth-positive}
 use Rattle.documents.proofs.Substitution.{subst-ext, rename-is, select}
 use Rattle.documents.proofs.Valuations.{instance}
 use Rattle.documents.proofs.FreeVariables.{AllFree-map, free-of-every}
@@ -86,12 +87,6 @@ under-of-below : (n : ℕ) (l : List ℕ) → Below n (vars l) → Under n l
 under-of-below n [] h = tt
 under-of-below n (x ∷ l) h = (h .0, under-of-below n l (h .1))
 
-pub depth-term : (t : Term) → 0 < depth t
-depth-term (Var x) = omega arith
-depth-term (Sym s ts) = omega arith
-depth-term (Meta z ts) = omega arith
-depth-term (Abst t) = omega arith
-
 pub simple-of : {s : Sort} (n : ℕ) (t : Tm s) → T (simple t) → Below n t → n + depth t ≤ 64 → Simple n t
 simple-of n (Var x) h b d = b
 simple-of n (Sym s ts) h b d = simple-of n ts h b (omega arith)
@@ -99,7 +94,7 @@ simple-of n (Meta z ts) h b d =
     let r = of-and (areVars ts) (isset (freevars ts)) h in
     let e = vars-of-areVars ts (r .0) in
     (unvar ts, e, distinct-of-isset (unvar ts) (rw (freevars-vars (unvar ts)) at (rw e at (r .1))), under-of-below n (unvar ts) (rw e at b))
-simple-of n (Abst t) h b d = let k = depth-term t in (omega arith, simple-of (suc n) t h (below-abst n t b) (omega arith))
+simple-of n (Abst t) h b d = let k = depth-positive t in (omega arith, simple-of (suc n) t h (below-abst n t b) (omega arith))
 simple-of n Nil h b d = tt
 simple-of n (Cons t ts) h b d =
     let r = of-and (simple t) (simple ts) h in

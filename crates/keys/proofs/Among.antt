@@ -2,25 +2,17 @@
 use mathlib.Core.Path.{_≡_, refl, sym, ap, _∙_}
 use Prim.Native.Nat.{ℕ, _+_, _-_, _≤_, _<_}
 use native.Mathlib.Omega.{arith}
-use mathlib.Core.Bool.{Bool, true, false, not, _&&_, _||_, or-true, or-assoc}
+use mathlib.Core.Bool.{Bool, true, false, not, _&&_, _||_, or-true}
 use mathlib.Core.List.{List, [], _∷_, _++_}
 use lib.Dec.{eqb}
-use lib.ListN.{length, take, drop, getD, length-drop, length-append, take-append-drop}
+use lib.ListN.{length, take, drop, getD, length-append, take-append-drop, drop-of-length-le}
 use lib.Seq.{drop-at, take-all, length-take-le}
 use borrow.Author.Tests.{eqb-true, eq-eqb, ne-eqb, not-true}
 use Rattle.documents.specs.Lists.{every, member}
-use Rattle.documents.proofs.Lists.{never, on, T-of, of-and, and-of, case, at-cons}
+use Rattle.documents.proofs.Lists.{never, on, T-of, of-and, and-of, case, at-cons, member-append}
 use Rattle.keys.specs.Keys.{isLow, Parted}
 
 -- ---- One by one
-
--- at the end of a list none is left
-pub none-left : (l : List ℕ) (at : ℕ) → length l ≤ at → drop at l ≡ []
-none-left l at h = go (drop at l) (let e = length-drop at l in omega arith)
-  where
-    go : (d : List ℕ) → length d ≡ 0 → d ≡ []
-    go [] e = refl
-    go (x ∷ d) e = absurd (omega arith)
 
 -- whether a key is among those still to be looked at is what was asked of all
 pub record Looking (keys : List ℕ) (key at : ℕ) : Type 0 where
@@ -31,7 +23,7 @@ looking-from = record { same = refl }
 
 module _ {l : List ℕ} {k at : ℕ} (i : Looking l k at) where
   pub looking-ended : length l ≤ at → false ≡ member l k
-  looking-ended h = ap (λ (d : List ℕ). member d k) (sym (none-left l at h)) ∙ i .same
+  looking-ended h = ap (λ (d : List ℕ). member d k) (sym (drop-of-length-le l h)) ∙ i .same
 
   module _ (h : at < length l) where
     looked : (q : Bool) → eqb (getD l at 0) k ≡ q → q || member (drop (at + 1) l) k ≡ member l k
@@ -52,7 +44,7 @@ asking-from = record { same = refl }
 
 module _ {left right : List ℕ} {at : ℕ} (i : Asking left right at) where
   pub asking-ended : length right ≤ at → true ≡ every (member left) right
-  asking-ended h = ap (every (member left)) (sym (none-left right at h)) ∙ i .same
+  asking-ended h = ap (every (member left)) (sym (drop-of-length-le right h)) ∙ i .same
 
   module _ (h : at < length right) where
     asked : (q : Bool) → member left (getD right at 0) ≡ q → q && every (member left) (drop (at + 1) right) ≡ every (member left) right
@@ -85,10 +77,6 @@ every-of : (q : ℕ → Bool) (l : List ℕ) → ((k : ℕ) → member l k ≡ t
 every-of q [] f = refl
 every-of q (v ∷ l) f =
     rw (f v (rw (eq-eqb v v refl)), every-of q l (λ k m. f k (rw m (or-true (eqb v k)))))
-
-member-append : (l m : List ℕ) (k : ℕ) → member (l ++ m) k ≡ member l k || member m k
-member-append [] m k = refl
-member-append (v ∷ l) m k = rw (member-append l m k) (sym (or-assoc (eqb v k) (member l k) (member m k)))
 
 -- ---- Keys in two parts
 

@@ -24,9 +24,9 @@ use Rattle.compiled.proofs.Unlisted.{distinct-few}
 use Rattle.compiled.proofs.Rows.{length-update}
 use Rattle.compiled.proofs.WordCount.{left-short}
 use Rattle.tables.specs.Parts.{terms, front, Begins, wordCount}
-use Rattle.tables.proofs.Parts.{join, Step, step, passed, front-term, words-fit, in-table, begins-less, from, from-drop}
-use Rattle.tables.proofs.Walks.{at-abstraction, walk-from, ended, Walking, walking-from, walking-on, walking-term, walking-ended}
-use Rattle.tables.proofs.Fronts.{last-word, root, arguments-begin, argument-count, front-metavariable, front-abstraction}
+use Rattle.tables.proofs.Parts.{join, Step, step, passed, front-term, words-fit, begins-less, from, from-drop}
+use Rattle.tables.proofs.Walks.{at-abstraction, ended, Walking, walking-from, walking-on, walking-term, walking-ended}
+use Rattle.tables.proofs.Fronts.{root, arguments-begin, argument-count, front-metavariable, front-abstraction}
 use Rattle.symbols.specs.declared.Found.the-variants.{At, Nothing}
 use Rattle.symbols.specs.declared.Entered.{Entered}
 use Rattle.symbols.specs.declared.Entered.the-variants.{Words, Full}
@@ -121,7 +121,7 @@ pub nodes-vars : (l : List ℕ) → nodes (vars l) ≡ length l
 nodes-vars [] = refl
 nodes-vars (x ∷ l) = let h = nodes-vars l in omega arith
 
-areVars-vars : (l : List ℕ) → areVars (vars l) ≡ true
+pub areVars-vars : (l : List ℕ) → areVars (vars l) ≡ true
 areVars-vars [] = refl
 areVars-vars (x ∷ l) = areVars-vars l
 
@@ -159,10 +159,6 @@ module _ {part : List ℕ} {under : ℕ} {table : List ℕ} {first : ℕ} (g : E
   abbrev here : List Row
   here = rowsIn (drop first table)
 
-  -- a node has two words
-  pub root-words : 2 ≤ length part
-  root-words = in-table part 0 (g .begins) (omega arith)
-
   -- what was gone over has a node's words at least and is within the part; its code has at most 67 words a node
   pub words-within : {left : List ℕ} {r : Entered} {read place more : ℕ} → Enters under (front part) here left r → r ≡ Words read place more
       → (2 ≤ read) × (read ≤ length part) × (more ≤ 17152)
@@ -173,9 +169,6 @@ module _ {part : List ℕ} {under : ℕ} {table : List ℕ} {first : ℕ} (g : E
       let k = left-short under (front part) here (g .low) (g .simple) in
       let s = g .short in
       (omega arith, omega arith, omega arith)
-
-  pub below-abstraction : (getD part 0 0 ≡ 196608 → ⊥) → getD part 0 0 < 196608
-  below-abstraction ne = let k = last-word (walk-from (g .begins)) (omega arith) in omega arith
 
   -- an abstraction, and its body
   module _ (v : getD part 0 0 ≡ 196608) where

@@ -34,10 +34,6 @@ rows-ended ws at h =
     let e : length (drop at ws) / 11 ≡ 0 = omega arith in
     rw e
 
-pub no-words : rowsIn [] ≡ []
-unfolding rowsFrom rowsIn
-no-words = refl
-
 -- ---- Looking up
 
 -- a location behind m rows

@@ -5,13 +5,13 @@ use Prim.Native.Nat.{ℕ, zero, suc, _+_, _-_, _*_, _/_, _%_, _≤_, _<_, max}
 use native.Mathlib.Nat.{add-zero}
 use native.Mathlib.Numerals.{add-one}
 use native.Mathlib.Omega.{arith}
-use mathlib.Core.Bool.{Bool, true, false, _&&_, cond}
+use mathlib.Core.Bool.{Bool, true, false, _&&_, cond, and-true, and-assoc}
 use mathlib.Core.Option.{Option, none, some}
 use mathlib.Core.List.{List, [], _∷_, _++_, append-nil}
 use lib.Dec.{eqb, leb, ltb, leb·suc-suc, eqb·suc-suc, eqb·zero-suc}
 use lib.ListN.{length, drop, getD, set, replicate, length-drop, length-set}
 use lib.Seq.{drop-at, getD-set-same, getD-set-other}
-use borrow.Author.Tests.{le-leb, lt-leb, ne-eqb, eqb-true, leb-true, leb-false}
+use borrow.Author.Tests.{le-leb, lt-leb, ne-eqb, eqb-true, leb-true}
 use Rattle.documents.specs.Limits.{argumentLimit, planLimit, depthLimit}
 use Rattle.documents.specs.Lists.{need, andThen, isEmpty}
 use Rattle.documents.specs.Terms.{Sort, many, Tm, Var, Sym, Meta, Abst, Nil, Cons, Term, Terms, len}
@@ -19,7 +19,9 @@ use Rattle.documents.specs.Tables.{kindOf, grab, abstract, node, termsIn, singl
 use Rattle.documents.specs.declared.Refusal.{Refusal}
 use Rattle.documents.specs.Rules.{metas}
 use Rattle.documents.specs.Numbers.{Answer, answered, refused, unless, orRefuse, with, tableIn, subjectIn}
-use Rattle.documents.proofs.Lists.{never, on, T-of, of-and, and-assoc, and-true, andThen-is}
+use Rattle.documents.proofs.Lists.{never, on, T-of, of-and, andThen-is}
+pub use Rattle.documents.proofs.Lists.{leb-max}
+pub use Rattle.documents.proofs.Nodes.{depth-positive}
 use Rattle.documents.proofs.Tables.{before, tableOf-termIn, length-tableOf, termsIn-tableOf, termsIn-tablesOf, subterm-place}
 use Rattle.documents.proofs.Numbers.{tableIn-held, subjectIn-held}
 use Rattle.tables.specs.Parts.{held, firstTerms, terms, front, Begins, wordCount}
@@ -219,14 +221,6 @@ depth-headed (suc (suc (suc zero))) s ts h =
     omega arith
 depth-headed (suc (suc (suc (suc k)))) s ts h = absurd h
 
-pub leb-max : (x y l : ℕ) → leb (max x y) l ≡ leb x l && leb y l
-leb-max x y l = go (leb x l) (leb y l) refl refl
-  where
-    go : (p q : Bool) → leb x l ≡ p → leb y l ≡ q → leb (max x y) l ≡ p && q
-    go true true p q = let a = leb-true x l p in let b = leb-true y l q in le-leb (max x y) l (omega arith)
-    go true false p q = let b = leb-false y l q in lt-leb (max x y) l (omega arith)
-    go false q p _ = let a = leb-false x l p in lt-leb (max x y) l (omega arith)
-
 -- terms that are owed level by level, the innermost first, are not deeper than the levels that are left for them
 abbrev pub shallow : List ℕ → ℕ → List Term → Bool
 shallow [] levels us = true
@@ -259,7 +253,7 @@ opened-shallow {k} {s} {c} {us} {vs} n levels ns o =
       leb-max (1 + depth (o .arguments)) (depth (firstTerms n (o .rest))) (suc levels),
       leb-one (depth (o .arguments)) levels,
     )
-    (sym (and-assoc (leb (depth (o .arguments)) levels) (leb (depth (firstTerms n (o .rest))) (suc levels)) (shallow ns (suc (suc levels)) (drop n (o .rest)))))
+    (and-assoc (leb (depth (o .arguments)) levels) (leb (depth (firstTerms n (o .rest))) (suc levels)) (shallow ns (suc (suc levels)) (drop n (o .rest))))
 
 -- the numbers at the front of an array, the last of them first
 abbrev pub listed : List ℕ → ℕ → List ℕ
@@ -273,12 +267,6 @@ listed-set above (suc k) m v h = ap₂ (λ (x : ℕ) (l : List ℕ). x ∷ l) (g
 abbrev pub total : List ℕ → ℕ
 total [] = 0
 total (n ∷ ns) = n + total ns
-
-pub depth-positive : (t : Term) → 0 < depth t
-depth-positive (Var x) = omega arith
-depth-positive (Sym s ts) = omega arith
-depth-positive (Meta z ts) = omega arith
-depth-positive (Abst t) = omega arith
 
 -- Where the walk of a table's levels stands: `owed` terms at the innermost level, and above it those of each open one.
 pub record Levels (table : List ℕ) (above : List ℕ) (level owed at : ℕ) : Type 0 where

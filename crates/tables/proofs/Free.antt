@@ -4,7 +4,7 @@ use mathlib.Core.Path.{_≡_, refl, sym, ap, _∙_, fun-ext}
 use Prim.Native.Nat.{ℕ, zero, suc, _+_, _-_, _/_, _%_, _≤_, _<_, min}
 use native.Mathlib.Numerals.{add-one}
 use native.Mathlib.Omega.{arith}
-use mathlib.Core.Bool.{Bool, true, false, not, _&&_, _||_, cond}
+use mathlib.Core.Bool.{Bool, true, false, not, _&&_, _||_, cond, and-true}
 use mathlib.Core.List.{List, [], _∷_, _++_, append-assoc, append-nil}
 use lib.Dec.{eqb, ltb}
 use lib.ListN.{length, drop, getD, set, replicate, length-set, length-replicate, getD-replicate, drop-of-length-le}
@@ -13,12 +13,12 @@ use borrow.Author.Tests.{lt-ltb, le-ltb, ltb-true, eqb-true, eqb-false}
 use Rattle.documents.specs.Lists.{every, member, isEmpty}
 use Rattle.documents.specs.Terms.{Var, Nil, Cons, Term, Terms}
 use Rattle.documents.specs.Rules.{fv, freevars, closed}
-use Rattle.documents.proofs.Lists.{on, T-of, of-and, and-true, every-append}
+use Rattle.documents.proofs.Lists.{on, T-of, of-and, every-append}
 use Rattle.tables.specs.Parts.{terms, front, Begins, wordCount}
 use Rattle.tables.specs.declared.walk.Walked.the-variants.{Words, Stopped}
 use Rattle.tables.specs.Forbidden.{clear, looked, Small, unmarked, marked, markAll, markedWith}
 use Rattle.tables.proofs.Parts.{join, Step, step, front-term, from, from-drop}
-use Rattle.tables.proofs.Walks.{at-variable, at-abstraction, Walk, ended, Walking, walking-from, walking-on, walking-variable, walking-abstraction, walking-ended, walked-words, walked-stopped, is-words, is-stopped}
+use Rattle.tables.proofs.Walks.{at-variable, at-abstraction, Walk, walk-body, ended, Walking, walking-from, walking-on, walking-variable, walking-abstraction, walking-ended, walked-words, walked-stopped, is-words, is-stopped}
 
 -- ---- A walk of the variables
 
@@ -110,7 +110,7 @@ module _ {marks : List ℕ} {j : ℕ} {part : List ℕ} {owed at : ℕ} (l : Loo
 
   -- the body of an abstraction is a part of its own
   pub body : getD part at 0 ≡ 196608 → Begins 1 (from (at + 2) part)
-  body v = rw (from-drop (at + 2) part) (at-abstraction part at owed (l .walk .walk .begins) h v .body)
+  body v = walk-body (l .walk .walk) h v
 
   pub looking-body : (n : ℕ) → getD part at 0 ≡ 196608 → Words n ≡ looked marks (j + 1) (front (from (at + 2) part)) → Looking marks j part (owed - 1) (at + (2 + n))
   looking-body n v e =

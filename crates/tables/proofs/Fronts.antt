@@ -5,13 +5,13 @@ use native.Mathlib.Omega.{arith}
 use mathlib.Core.Bool.{Bool, true, false}
 use mathlib.Core.List.{List}
 use lib.Dec.{ltb}
-use lib.ListN.{drop, getD}
+use lib.ListN.{length, drop, getD}
 use borrow.Author.Tests.{ltb-true, ltb-false}
 use Rattle.documents.specs.Terms.{Var, Sym, Meta, Abst, Cons, Term, Terms, len}
 use Rattle.documents.specs.Rules.{isSymbol}
 use Rattle.tables.specs.Parts.{terms, front, Begins}
-use Rattle.tables.proofs.Parts.{headed, Step, step, begins-inside, front-term}
-use Rattle.tables.proofs.Walks.{at-variable, at-abstraction, Walk}
+use Rattle.tables.proofs.Parts.{headed, Step, step, begins-inside, front-term, in-table}
+use Rattle.tables.proofs.Walks.{at-variable, at-abstraction, Walk, walk-from}
 use Rattle.tables.proofs.Sides.{arguments-are}
 
 -- ---- The first word
@@ -36,6 +36,13 @@ no-symbol (suc (suc zero)) s ts h = refl
 no-symbol (suc (suc (suc k))) s ts h = refl
 
 module _ {part : List ℕ} (b : Begins 1 part) where
+  -- a node has two words
+  pub root-words : 2 ≤ length part
+  root-words = in-table part 0 b (omega arith)
+
+  pub below-abstraction : (getD part 0 0 ≡ 196608 → ⊥) → getD part 0 0 < 196608
+  below-abstraction ne = let k = last-word (walk-from b) (omega arith) in omega arith
+
   pub root : Step (getD part 0 0 / 65536) (getD part 0 0 % 65536) (getD part 1 0) (terms 1 part) (terms (getD part 1 0) (drop 2 part))
   root = let e : 1 - 1 + getD part 1 0 ≡ getD part 1 0 = omega arith in rw e at (step part 0 1 b (omega arith))
 

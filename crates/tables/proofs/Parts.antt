@@ -14,8 +14,9 @@ use borrow.Author.Tests.{eqb-true, leb-true}
 use Rattle.documents.specs.Limits.{argumentLimit}
 use Rattle.documents.specs.Lists.{andThen}
 use Rattle.documents.specs.Terms.{many, Var, Sym, Meta, Abst, Nil, Cons, Term, Terms, len}
-use Rattle.documents.specs.Tables.{kindOf, node, abstract, termsIn, nodes, tableOf}
+use Rattle.documents.specs.Tables.{kindOf, node, abstract, termsIn, tableOf}
 use Rattle.documents.proofs.Lists.{never, needed}
+use Rattle.documents.proofs.Nodes.{nodes-positive}
 use Rattle.documents.proofs.Tables.{before, Grabbed, grabbed, tablesOf, termsIn-holds, termsIn-tablesOf, length-tableOf}
 use Rattle.tables.specs.Parts.{orEmpty, held, firstTerms, terms, front, Begins, wordCount}
 
@@ -114,14 +115,8 @@ words-of-terms [] (suc n) h = absurd (omega arith)
 words-of-terms (u ∷ us) (suc n) h =
     let r = words-of-terms us n (omega arith) in
     let k = length-tableOf u in
-    let p = some-node u in
+    let p = nodes-positive u in
     (omega arith, rw (length-append (tableOf u) (tablesOf us)) (omega arith))
-  where
-    some-node : (u : Term) → 1 ≤ nodes u
-    some-node (Var x) = omega arith
-    some-node (Sym s ts) = omega arith
-    some-node (Meta z ts) = omega arith
-    some-node (Abst u) = omega arith
 
 pub words-fit : (n : ℕ) (part : List ℕ) → Begins n part → (2 * n ≤ wordCount (terms n part)) × (wordCount (terms n part) ≤ length part)
 unfolding terms

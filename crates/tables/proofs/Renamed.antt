@@ -4,7 +4,7 @@ use mathlib.Core.Path.{_≡_, refl, sym, ap, ap₂, _∙_}
 use Prim.Native.Nat.{ℕ, zero, suc, _+_, _-_, _/_, _%_, _≤_, _<_}
 use native.Mathlib.Numerals.{add-one}
 use native.Mathlib.Omega.{arith}
-use mathlib.Core.Bool.{Bool, true, false, _&&_, cond, and-false}
+use mathlib.Core.Bool.{Bool, true, false, _&&_, cond, and-false, and-true, and-assoc}
 use mathlib.Core.List.{List, [], _∷_}
 use lib.Dec.{eqb, ltb}
 use lib.ListN.{length, drop, getD, length-drop}
@@ -13,14 +13,14 @@ use Rattle.documents.specs.Terms.{Sort, Tm, Var, Sym, Meta, Abst, Nil, Cons, Te
 use Rattle.documents.specs.Tables.{nodes}
 use Rattle.documents.specs.Instructions.{pairsIn}
 use Rattle.documents.specs.Machine.{isVar, equal, renaming, equalUnder}
-use Rattle.documents.proofs.Lists.{never, on, and-assoc, and-true}
+use Rattle.documents.proofs.Lists.{never}
 use Rattle.documents.proofs.Substitution.{rename-ext, rename-id}
 use Rattle.documents.proofs.Paper.{equal-is}
 use Rattle.tables.specs.Parts.{terms, front, Begins, wordCount}
 use Rattle.tables.specs.declared.walk.Walked.the-variants.{Words, Stopped}
 use Rattle.tables.specs.Compared.{sameVariable, compared}
 use Rattle.tables.proofs.Parts.{join, headed, Shape, Step, step, two, front-term, from, from-drop}
-use Rattle.tables.proofs.Walks.{at-variable, at-abstraction, Walk, ended, Walking, walking-from, walking-on, walking-variable, walking-abstraction, walking-ended, walked-words, walked-stopped, is-words, is-stopped}
+use Rattle.tables.proofs.Walks.{at-variable, at-abstraction, Walk, walk-body, ended, Walking, walking-from, walking-on, walking-variable, walking-abstraction, walking-ended, walked-words, walked-stopped, is-words, is-stopped}
 
 both : (p q : Bool) → p && q ≡ true → (p ≡ true) × (q ≡ true)
 both true true e = (refl, refl)
@@ -60,7 +60,7 @@ module _ (ps : List (ℕ × ℕ)) (D : ℕ) where
   equal-join j Nil (Cons u us) xs ys l = absurd (omega arith)
   equal-join j (Cons t ts) Nil xs ys l = absurd (omega arith)
   equal-join j (Cons t ts) (Cons u us) xs ys l =
-      rw (equal-join j ts us xs ys (omega arith)) (and-assoc (equalUnder ps D j t u) (equalUnder ps D j ts us) (equalUnder ps D j xs ys))
+      rw (equal-join j ts us xs ys (omega arith)) (sym (and-assoc (equalUnder ps D j t u) (equalUnder ps D j ts us) (equalUnder ps D j xs ys)))
 
   unequal-length : (j : ℕ) (ts us : Terms) → ((len ts ≡ len us) → ⊥) → equalUnder ps D j ts us ≡ false
   unequal-length j Nil Nil h = absurd (h refl)
@@ -250,28 +250,27 @@ module _ {pairs : List ℕ} {D j : ℕ} {old new : List ℕ} {owed at : ℕ} (c 
   }
 
   -- an abstraction in both: the bodies are parts of their own
-  pub bodies : getD old at 0 ≡ 196608 → getD new at 0 ≡ 196608 → Begins 1 (from (at + 2) old) × Begins 1 (from (at + 2) new)
-  bodies v w =
-      (rw (from-drop (at + 2) old) (at-abstraction old at owed (c .walk .walk .begins) h v .body), rw (from-drop (at + 2) new) (at-abstraction new at owed (c .other .walk .begins) h w .body))
+  pub bodies : getD old at 0 ≡ 196608 → getD new at 0 ≡ getD old at 0 → Begins 1 (from (at + 2) old) × Begins 1 (from (at + 2) new)
+  bodies v w = (walk-body (c .walk .walk) h v, walk-body (c .other .walk) h (w ∙ v))
 
-  pub comparing-body : (n : ℕ) → getD old at 0 ≡ 196608 → getD new at 0 ≡ 196608 → Words n ≡ compared pairs D (j + 1) (front (from (at + 2) old)) (front (from (at + 2) new))
+  pub comparing-body : (n : ℕ) → getD old at 0 ≡ 196608 → getD new at 0 ≡ getD old at 0 → Words n ≡ compared pairs D (j + 1) (front (from (at + 2) old)) (front (from (at + 2) new))
       → Comparing pairs D j old new (owed - 1) (at + (2 + n))
   comparing-body n v w e =
       let body = front (drop (at + 2) old) in
       let d = walked-words (equalUnder (pairsIn pairs) D (j + 1) body (front (drop (at + 2) new))) body n (rw (from-drop (at + 2) old, from-drop (at + 2) new) at e) in
-      let g = same-body (pairsIn pairs) D (c .walk .walk) (c .other .walk) h j v w (d .0) in
+      let g = same-body (pairsIn pairs) D (c .walk .walk) (c .other .walk) h j v (w ∙ v) (d .0) in
       let k : at + (2 + n) ≡ at + 2 + wordCount body = let q = d .1 in omega arith in
       rw k (record {
         walk = walking-abstraction (c .walk) h v;
-        other = rw (g .0) at (walking-abstraction (c .other) h w);
+        other = rw (g .0) at (walking-abstraction (c .other) h (w ∙ v));
         same = sym (rw (g .0) at (g .1)) ∙ c .same;
       })
 
-  pub body-differs : getD old at 0 ≡ 196608 → getD new at 0 ≡ 196608 → Stopped ≡ compared pairs D (j + 1) (front (from (at + 2) old)) (front (from (at + 2) new))
+  pub body-differs : getD old at 0 ≡ 196608 → getD new at 0 ≡ getD old at 0 → Stopped ≡ compared pairs D (j + 1) (front (from (at + 2) old)) (front (from (at + 2) new))
       → Stopped ≡ compared pairs D j (front old) (front new)
   body-differs v w e =
       differs
-      (other-body (pairsIn pairs) D (c .walk .walk) (c .other .walk) h j v w
+      (other-body (pairsIn pairs) D (c .walk .walk) (c .other .walk) h j v (w ∙ v)
       (walked-stopped _ (front (drop (at + 2) old)) (rw (from-drop (at + 2) old, from-drop (at + 2) new) at e)))
 
 -- ---- A free variable's new index: the pairs from place i on

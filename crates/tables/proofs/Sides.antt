@@ -4,7 +4,7 @@ use mathlib.Core.Path.{_≡_, refl, sym, ap, ap₂, _∙_}
 use Prim.Native.Nat.{ℕ, zero, suc, _+_, _-_, _/_, _%_, _≤_, _<_}
 use native.Mathlib.Nat.{sub-zero}
 use native.Mathlib.Omega.{arith}
-use mathlib.Core.Bool.{Bool, true, false, not, _&&_}
+use mathlib.Core.Bool.{Bool, true, false, not, _&&_, and-true, and-assoc}
 use mathlib.Core.List.{List, [], _∷_, _++_, append-assoc, append-nil}
 use lib.Dec.{eqb}
 use lib.ListN.{drop, getD}
@@ -12,7 +12,7 @@ use borrow.Author.Tests.{ne-eqb, le-ltb, eqb-true}
 use Rattle.documents.specs.Lists.{member, isset}
 use Rattle.documents.specs.Terms.{Var, Sym, Meta, Abst, Nil, Cons, Term, Terms, len}
 use Rattle.documents.specs.Rules.{metas, simple, areVars, freevars}
-use Rattle.documents.proofs.Lists.{never, and-assoc, and-true}
+use Rattle.documents.proofs.Lists.{never}
 use Rattle.tables.specs.Side.{distinct}
 use Rattle.tables.specs.Parts.{held, firstTerms, terms, front, Begins}
 use Rattle.tables.proofs.Parts.{join, Step, step, front-term}
@@ -96,7 +96,7 @@ module _ {t : List ℕ} {a n : ℕ} (w : Walk t a n) (h : 0 < n) where
 
 simple-join : (ts us : Terms) → simple (join ts us) ≡ simple ts && simple us
 simple-join Nil us = refl
-simple-join (Cons t ts) us = rw (simple-join ts us) (and-assoc (simple t) (simple ts) (simple us))
+simple-join (Cons t ts) us = rw (simple-join ts us) (sym (and-assoc (simple t) (simple ts) (simple us)))
 
 variables-simple : (ts : Terms) → areVars ts ≡ true → simple ts ≡ true
 variables-simple Nil e = refl

@@ -8,12 +8,12 @@ use mathlib.Core.Bool.{Bool, true, false}
 use mathlib.Core.List.{List}
 use lib.ListN.{length, drop, getD, length-drop}
 use lib.Seq.{drop-drop}
-use Rattle.documents.specs.Terms.{Sort, many, Tm, Var, Abst, Nil, Cons, Term, Terms, len}
+use Rattle.documents.specs.Terms.{Sort, Tm, Var, Abst, Nil, Cons, Term, Terms, len}
 use Rattle.documents.specs.Tables.{nodes}
 use Rattle.documents.proofs.Lists.{never}
 use Rattle.tables.specs.declared.walk.Walked.the-variants.{Words, Stopped}
 use Rattle.tables.specs.Parts.{terms, front, Begins, wordCount, walked}
-use Rattle.tables.proofs.Parts.{join, only, headed, Shape, Step, step, begins-inside, begins-less, passed, front-term, words-fit}
+use Rattle.tables.proofs.Parts.{join, only, headed, Shape, Step, step, begins-inside, begins-less, passed, front-term, words-fit, from, from-drop}
 
 -- ---- A variable
 
@@ -117,6 +117,16 @@ module _ {t : List ℕ} {a n : ℕ} (w : Walk t a n) (h : 0 < n) where
 
   pub walk-variable : getD t a 0 < 65536 → Walk t (a + 2) (n - 1)
   walk-variable v = walk-at (at-variable t a n (w .begins) h v .begins) (let q = w .within in omega arith)
+
+  -- the body of an abstraction is a part of its own, and shorter by what the abstraction is higher
+  pub walk-body : getD t a 0 ≡ 196608 → Begins 1 (from (a + 2) t)
+  walk-body v = rw (from-drop (a + 2) t) (at-abstraction t a n (w .begins) h v .body)
+
+  pub body-falls : {s : ℕ} → length t ≡ s → length (from (a + 2) t) < s
+  body-falls e = let q = w .within in rw (from-drop (a + 2) t, length-drop (a + 2) t) (omega arith)
+
+  pub body-room : (j : ℕ) {s : ℕ} → j + length t < s → j + 1 + length (from (a + 2) t) < s
+  body-room j r = let q = w .within in rw (from-drop (a + 2) t, length-drop (a + 2) t) (omega arith)
 
 -- at its end
 pub ended : {t : List ℕ} {a n : ℕ} → Walk t a n → n ≤ 0 → terms n (drop a t) ≡ Nil

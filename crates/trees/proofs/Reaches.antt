@@ -14,7 +14,7 @@ use Rattle.documents.specs.Limits.{dShift}
 use Rattle.documents.specs.Lists.{every, assoc, pairlists}
 use Rattle.documents.specs.Terms.{Sort, one, many, Tm, Var, Sym, Meta, Abst, Nil, Cons, Term, Terms, len, rename, subst}
 use Rattle.documents.specs.Tables.{Fits, depth, indices}
-use Rattle.documents.proofs.Lists.{and-true, every-append}
+use Rattle.documents.proofs.Lists.{and-true, leb-max, every-append}
 use Rattle.documents.proofs.Substitution.{renameUnders, substUnders}
 use Rattle.documents.proofs.FreeVariables.{unders, AllFree, AllFree-map}
 use Rattle.kahrs.proofs.RightSide.{covered}
@@ -137,14 +137,6 @@ module _ (ent : ℕ → Term) where
   reach-is l (More p ps) g = (reach-is l p (g .0), reach-is l ps (g .1))
 
 -- ---- Whether all indices fit
-
-pub leb-max : (x y l : ℕ) → leb (max x y) l ≡ leb x l && leb y l
-leb-max x y l = go (leb x l) (leb y l) refl refl
-  where
-    go : (p q : Bool) → leb x l ≡ p → leb y l ≡ q → leb (max x y) l ≡ p && q
-    go true true p q = let a = leb-true x l p in let b = leb-true y l q in le-leb (max x y) l (omega arith)
-    go true false p q = let b = leb-false y l q in lt-leb (max x y) l (omega arith)
-    go false q p _ = let a = leb-false x l p in lt-leb (max x y) l (omega arith)
 
 pub fits-in : {s : Sort} (l : ℕ) (t : Tm s) → Fits t → farthest l t ≤ 65536
 fits-in l (Var x) h = go (ltb x l)

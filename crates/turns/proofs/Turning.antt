@@ -2,7 +2,7 @@
 use mathlib.Core.Path.{_≡_, refl, sym, ap, _∙_}
 use Prim.Native.Nat.{ℕ, zero, suc, _+_, _-_, _*_, _≤_, _<_}
 use native.Mathlib.Omega.{arith}
-use mathlib.Core.Bool.{Bool, true, false, _&&_, cond, and-false}
+use mathlib.Core.Bool.{Bool, true, false, _&&_, cond, and-false, and-true}
 use mathlib.Core.Option.{Option, none, some}
 use mathlib.Core.List.{List, [], _∷_}
 use lib.Dec.{eqb, leb, ltb}
@@ -15,7 +15,7 @@ use Rattle.documents.specs.Lists.{need}
 use Rattle.documents.specs.Instructions.{IS, ISABST, NEXT, CHECK, SET, EQVAR, EQIMM, EQI, CELL, LAMBDA, ADBMAL, PUSHVAR, PUSHIMM, PUSHI, Instruction, Read, whole, opcode, fixedAfter, pairsIn}
 use Rattle.documents.specs.Machine.{firsts}
 use Rattle.documents.specs.Passing.{Slot, slot, withSlot, covers, seconds, allBelow, Matching, matching}
-use Rattle.documents.proofs.Lists.{at-cons, never, case, on, off, and-true}
+use Rattle.documents.proofs.Lists.{at-cons, never, case, on, off}
 use Rattle.instructions.specs.declared.Place.{Place}
 use Rattle.instructions.specs.declared.Place.the-variants as place
 use Rattle.instructions.specs.Places.{readAt, placeIf, fetched}

@@ -1,7 +1,6 @@
 -- `each_among` meets its contract: whether the keys still to be asked for are on the left is what was asked of all.
 use mathlib.Core.Path.{sym, _∙_}
 use Prim.Native.Nat.{_-_}
-use native.Mathlib.Omega.{arith}
 use lib.ListN.{length}
 use borrow.Author.Tests.{not-true, not-false}
 use Rattle.keys.proofs.Among.{Asking, asking-from, asking-missing, asking-on, asking-ended}
@@ -25,8 +24,8 @@ each-among-spec =
     (λ c. search needs)
     (λ c. search needs)
     (λ c κs. search needs)
-    (λ c. asking-missing (c .before .before .before .before .loop .inv) (omega arith) (sym (c .before .is-among .ensures) ∙ not-true _ (c .if1 .taken)))
+    (λ c. asking-missing (c .before .before .before .before .loop .inv) (c .before .before .before .loop-test .taken) (sym (c .before .is-among .ensures) ∙ not-true _ (c .if1 .taken)))
     (λ c. search needs)
     (λ c. search needs)
-    (λ c. asking-on (c .before .before .before .before .loop .inv) (omega arith) (sym (c .before .is-among .ensures) ∙ not-false _ (c .if1 .left)))
-    (λ c. asking-ended (c .before .loop .inv) (omega arith)))
+    (λ c. asking-on (c .before .before .before .before .loop .inv) (c .before .before .before .loop-test .taken) (sym (c .before .is-among .ensures) ∙ not-false _ (c .if1 .left)))
+    (λ c. asking-ended (c .before .loop .inv) (c .loop-test .left)))

@@ -1,6 +1,5 @@
 -- `is_among` meets its contract: whether the key is among those still to be looked at is what was asked of all.
 use Prim.Native.Nat.{_-_}
-use native.Mathlib.Omega.{arith}
 use lib.ListN.{length}
 use Rattle.keys.proofs.Among.{Looking, looking-from, looking-found, looking-on, looking-ended}
 use borrow.Author.Needs.{needs}
@@ -22,8 +21,8 @@ is-among-spec =
     (λ c. looking-from)
     (λ c. search needs)
     (λ c. search needs)
-    (λ c. looking-found (c .before .before .before .loop .inv) (omega arith) (c .if1 .taken))
+    (λ c. looking-found (c .before .before .before .loop .inv) (c .before .before .loop-test .taken) (c .if1 .taken))
     (λ c. search needs)
     (λ c. search needs)
-    (λ c. looking-on (c .before .before .before .loop .inv) (omega arith) (c .if1 .left))
-    (λ c. looking-ended (c .before .loop .inv) (omega arith)))
+    (λ c. looking-on (c .before .before .before .loop .inv) (c .before .before .loop-test .taken) (c .if1 .left))
+    (λ c. looking-ended (c .before .loop .inv) (c .loop-test .left)))

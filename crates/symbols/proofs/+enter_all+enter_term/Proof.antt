@@ -6,7 +6,8 @@ use native.Mathlib.Omega.{arith}
 use lib.ListN.{length, drop, length-drop}
 use Rattle.tables.proofs.Parts.{from-drop}
 use Rattle.symbols.specs.Rows.{rowsIn}
-use Rattle.symbols.proofs.Entering.{root-words, words-within, below-abstraction, body-enterable, body-full, body-entered, Entering, entering-from, narrow-node, entering-plain, term-enterable, first-word, term-full, entering-term, entering-ended}
+use Rattle.tables.proofs.Fronts.{root-words, below-abstraction}
+use Rattle.symbols.proofs.Entering.{words-within, body-enterable, body-full, body-entered, Entering, entering-from, narrow-node, entering-plain, term-enterable, first-word, term-full, entering-term, entering-ended}
 use borrow.Author.Needs.{needs}
 use borrow.Fn.Kinds.{In}
 use borrow.Fn.PlainCycle.{Measures, is, falls, and}
@@ -63,12 +64,12 @@ pub +enter-all+enter-term-spec : {M : Type 1} → statement M
     (λ c. search needs)
     (λ c. search needs)
     (λ c. search needs)
-    (λ c. let k = narrow-node (c .before .before .before .before .loop .inv) (omega arith) in search needs)
-    (λ c. let k = narrow-node (c .before .before .before .before .loop .inv) (omega arith) in search needs)
+    (λ c. let k = narrow-node (c .before .before .before .before .loop .inv) (c .before .before .before .loop-test .taken) in search needs)
+    (λ c. let k = narrow-node (c .before .before .before .before .loop .inv) (c .before .before .before .loop-test .taken) in search needs)
     (λ c. search needs)
     (λ c. search needs)
     (λ c. search needs)
-    (λ c. entering-plain (c .before .before .before .before .loop .inv) (omega arith) (c .before .if1 .taken))
+    (λ c. entering-plain (c .before .before .before .before .loop .inv) (c .before .before .before .loop-test .taken) (c .before .if1 .taken))
     (λ c. search needs)
     (λ c. search needs)
     (λ c. search needs)
@@ -77,14 +78,14 @@ pub +enter-all+enter-term-spec : {M : Type 1} → statement M
     (λ c. search needs)
     (λ c. search needs)
     (λ c. search needs)
-    (λ c. term-full (c .before .before .before .before .before .before .before .before .before .before .loop .inv) (omega arith) (c .before .before .before .before .enter-term .ensures) (c .enum-told .given .1))
+    (λ c. term-full (c .before .before .before .before .before .before .before .before .before .before .loop .inv) (c .before .before .before .before .before .before .before .before .before .loop-test .taken) (c .before .before .before .before .enter-term .ensures) (c .enum-told .given .1))
     (λ c. search needs)
-    (λ c. let o = entering-term (c .before .before .before .before .before .before .before .before .before .before .before .loop .inv) (omega arith) (c .before .before .before .before .before .enter-term .ensures) (c .before .before .before .before .before .enter-term .kept .1 .1 .0) (c .before .read .given .1) in search needs)
-    (λ c. let o = entering-term (c .before .before .before .before .before .before .before .before .before .before .before .loop .inv) (omega arith) (c .before .before .before .before .before .enter-term .ensures) (c .before .before .before .before .before .enter-term .kept .1 .1 .0) (c .before .read .given .1) in search needs)
-    (λ c. let k = words-within (term-enterable (c .before .before .before .before .before .before .before .before .before .before .before .loop .inv) (omega arith)) (c .before .before .before .before .before .enter-term .ensures) (c .before .read .given .1) in search needs)
-    (λ c. entering-term (c .before .before .before .before .before .before .before .before .before .before .before .loop .inv) (omega arith) (c .before .before .before .before .before .enter-term .ensures) (c .before .before .before .before .before .enter-term .kept .1 .1 .0) (c .before .read .given .1))
+    (λ c. let o = entering-term (c .before .before .before .before .before .before .before .before .before .before .before .loop .inv) (c .before .before .before .before .before .before .before .before .before .before .loop-test .taken) (c .before .before .before .before .before .enter-term .ensures) (c .before .before .before .before .before .enter-term .kept .1 .1 .0) (c .before .read .given .1) in search needs)
+    (λ c. let o = entering-term (c .before .before .before .before .before .before .before .before .before .before .before .loop .inv) (c .before .before .before .before .before .before .before .before .before .before .loop-test .taken) (c .before .before .before .before .before .enter-term .ensures) (c .before .before .before .before .before .enter-term .kept .1 .1 .0) (c .before .read .given .1) in search needs)
+    (λ c. let k = words-within (term-enterable (c .before .before .before .before .before .before .before .before .before .before .before .loop .inv) (c .before .before .before .before .before .before .before .before .before .before .loop-test .taken)) (c .before .before .before .before .before .enter-term .ensures) (c .before .read .given .1) in search needs)
+    (λ c. entering-term (c .before .before .before .before .before .before .before .before .before .before .before .loop .inv) (c .before .before .before .before .before .before .before .before .before .before .loop-test .taken) (c .before .before .before .before .before .enter-term .ensures) (c .before .before .before .before .before .enter-term .kept .1 .1 .0) (c .before .read .given .1))
     (λ c. search needs)
-    (λ c. entering-ended (c .before .loop .inv) (omega arith)))
+    (λ c. entering-ended (c .before .loop .inv) (c .loop-test .left)))
     λ t. enter-term-lts.spec (
       enter-all-below t,
       enter-all.Post,
@@ -93,12 +94,12 @@ pub +enter-all+enter-term-spec : {M : Type 1} → statement M
     )
     (enter-term-at t)
     enter-term.Post
-    (λ c. let r = root-words (c .before .before .before .pre .1 .0) in search needs)
-    (λ c. let r = root-words (c .before .before .before .before .pre .1 .0) in search needs)
-    (λ c. let r = root-words (c .before .before .before .before .pre .1 .0) in search needs)
+    (λ c. let r = root-words (c .before .before .before .pre .1 .0 .begins) in search needs)
+    (λ c. let r = root-words (c .before .before .before .before .pre .1 .0 .begins) in search needs)
+    (λ c. let r = root-words (c .before .before .before .before .pre .1 .0 .begins) in search needs)
     (λ c. search needs)
     (λ c. let b = body-enterable (c .before .before .before .before .before .pre .1 .0) (c .before .if1 .taken) .low in search needs)
-    (λ c κs. let g = c .before .before .before .before .before .before .pre .1 .0 in let r = root-words g in (rw (from-drop, length-drop) (omega arith), body-enterable g (c .before .before .if1 .taken)))
+    (λ c κs. let g = c .before .before .before .before .before .before .pre .1 .0 in let r = root-words (g .begins) in (rw (from-drop, length-drop) (omega arith), body-enterable g (c .before .before .if1 .taken)))
     (λ c. search needs)
     (λ c. search needs)
     (λ c. search needs)
@@ -107,6 +108,6 @@ pub +enter-all+enter-term-spec : {M : Type 1} → statement M
     (λ c. let k = words-within (body-enterable (c .before .before .before .before .before .before .before .before .before .before .before .before .pre .1 .0) (c .before .before .before .before .before .before .before .before .if1 .taken)) (c .before .before .before .before .before .enter-all .ensures) (c .before .read .given .1) in search needs)
     (λ c. search needs)
     (λ c. body-entered (c .before .before .before .before .before .before .before .before .before .before .before .before .pre .1 .0) (c .before .before .before .before .before .before .before .before .if1 .taken) (c .before .before .before .before .before .enter-all .ensures) (c .before .read .given .1))
-    (λ c κs. let p = c .before .before .before .before .before .pre .1 in (p .0, p .1, below-abstraction (p .0) (c .before .if1 .left)))
+    (λ c κs. let p = c .before .before .before .before .before .pre .1 in (p .0, p .1, below-abstraction (p .0 .begins) (c .before .if1 .left)))
     (λ c. search needs)
     (λ c. c .before .before .enter-metavariable .ensures)

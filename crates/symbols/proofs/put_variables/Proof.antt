@@ -1,6 +1,5 @@
 -- `put_variables` meets its contract: writing the variables still left from where it stands gives the words that were asked for. A variable's first
 -- word is its index.
-use native.Mathlib.Omega.{arith}
 use Rattle.symbols.proofs.Stored.{Putting, putting-from, putting-on, putting-ended}
 use borrow.Author.Needs.{needs}
 use Rattle.symbols.proofs.put_variables.Statement.{statement}
@@ -27,6 +26,6 @@ put-variables-spec =
     (λ c. search needs)
     (λ c. search needs)
     (λ c. search needs)
-    (λ c. putting-on (c .before .before .loop .inv) (omega arith))
+    (λ c. putting-on (c .before .before .loop .inv) (c .before .loop-test .taken))
     (λ c. search needs)
-    (λ c. putting-ended (c .before .loop .inv) (omega arith)))
+    (λ c. putting-ended (c .before .loop .inv) (c .loop-test .left)))

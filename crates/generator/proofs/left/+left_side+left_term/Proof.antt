@@ -5,7 +5,8 @@ use Prim.Native.Nat.{ℕ, _+_, _-_, _*_, _<_}
 use native.Mathlib.Omega.{arith}
 use lib.ListN.{length, length-drop}
 use Rattle.tables.proofs.Parts.{from-drop}
-use Rattle.generator.proofs.Matching.{Translating, translating-from, translating-ended, plain-fits, plain-on, term-asked, term-on, term-read, term-words, is-metavariable, abst-fits, body-low, body-asked, body-done, body-read}
+use Rattle.tables.proofs.Fronts.{root-words}
+use Rattle.generator.proofs.Matching.{Translating, translating-from, translating-ended, plain-fits, plain-on, term-asked, term-on, term-read, is-metavariable, abst-fits, body-low, body-asked, body-done, body-read}
 use borrow.Author.Needs.{needs}
 use borrow.Fn.Kinds.{In}
 use borrow.Fn.PlainCycle.{Measures, is, falls, and}
@@ -66,24 +67,24 @@ pub +left-side+left-term-spec : {M : Type 1} → statement M
     (λ c. search needs)
     (λ c. search needs)
     (λ c. search needs)
-    (λ c κs. plain-fits (c .before .before .before .before .before .loop .inv) (omega arith) (c .before .before .if1 .taken))
+    (λ c κs. plain-fits (c .before .before .before .before .before .loop .inv) (c .before .before .before .before .loop-test .taken) (c .before .before .if1 .taken))
     (λ c. search needs)
     (λ c. omega (arith, c .before .before .before .before .shared-slice-known4 .given (c .before .before .before .before .before .before .before .before .loop .read + 1)))
-    (λ c. let o = plain-on (c .before .before .before .before .before .before .before .before .loop .inv) (omega arith) (c .before .before .before .before .before .if1 .taken) (c .before .before .left-plain .ensures) .walking .walk .within in omega arith)
+    (λ c. let o = plain-on (c .before .before .before .before .before .before .before .before .loop .inv) (c .before .before .before .before .before .before .before .loop-test .taken) (c .before .before .before .before .before .if1 .taken) (c .before .before .left-plain .ensures) .walking .walk .within in omega arith)
     (λ c. search needs)
     (λ c. search needs)
-    (λ c. plain-on (c .before .before .before .before .before .before .before .before .loop .inv) (omega arith) (c .before .before .before .before .before .if1 .taken) (c .before .before .left-plain .ensures))
+    (λ c. plain-on (c .before .before .before .before .before .before .before .before .loop .inv) (c .before .before .before .before .before .before .before .loop-test .taken) (c .before .before .before .before .before .if1 .taken) (c .before .before .left-plain .ensures))
     (λ c. search needs)
     (λ c. search needs)
     (λ c. search needs)
     (λ c. search needs)
-    (λ c κs. let s = c .before .before .before .before .before .before .before .before .before .args in let l = c .before .before .before .before .before .loop in let d = length-drop (l .read) (s .part .now) in rw (from-drop (l .read) (s .part .now)) (omega arith, term-asked (l .inv) (omega arith) (c .before .before .before .before .before .before .before .before .before .pre .1) (c .before .before .if1 .left)))
+    (λ c κs. let s = c .before .before .before .before .before .before .before .before .before .args in let l = c .before .before .before .before .before .loop in let d = length-drop (l .read) (s .part .now) in rw (from-drop (l .read) (s .part .now)) (omega arith, term-asked (l .inv) (c .before .before .before .before .loop-test .taken) (c .before .before .before .before .before .before .before .before .before .pre .1) (c .before .before .if1 .left)))
     (λ c. search needs)
-    (λ c. let o = term-on (c .before .before .before .before .before .before .before .before .before .loop .inv) (omega arith) (rw (from-drop (c .before .before .before .before .before .before .before .before .before .loop .read) (c .before .before .before .before .before .before .before .before .before .before .before .before .before .args .part .now)) at (c .before .before .before .left-term .ensures)) .walking .walk .within in search needs)
-    (λ c. let d = rw (from-drop (c .before .before .before .before .before .before .before .before .before .loop .read) (c .before .before .before .before .before .before .before .before .before .before .before .before .before .args .part .now)) at (c .before .before .before .left-term .ensures) in let r = term-read (c .before .before .before .before .before .before .before .before .before .loop .inv) (omega arith) d in let o = term-on (c .before .before .before .before .before .before .before .before .before .loop .inv) (omega arith) d .walking .walk .within in omega arith)
-    (λ c. term-on (c .before .before .before .before .before .before .before .before .before .loop .inv) (omega arith) (rw (from-drop (c .before .before .before .before .before .before .before .before .before .loop .read) (c .before .before .before .before .before .before .before .before .before .before .before .before .before .args .part .now)) at (c .before .before .before .left-term .ensures)))
+    (λ c. let o = term-on (c .before .before .before .before .before .before .before .before .before .loop .inv) (c .before .before .before .before .before .before .before .before .loop-test .taken) (rw (from-drop (c .before .before .before .before .before .before .before .before .before .loop .read) (c .before .before .before .before .before .before .before .before .before .before .before .before .before .args .part .now)) at (c .before .before .before .left-term .ensures)) .walking .walk .within in search needs)
+    (λ c. let d = rw (from-drop (c .before .before .before .before .before .before .before .before .before .loop .read) (c .before .before .before .before .before .before .before .before .before .before .before .before .before .args .part .now)) at (c .before .before .before .left-term .ensures) in let r = term-read (c .before .before .before .before .before .before .before .before .before .loop .inv) (c .before .before .before .before .before .before .before .before .loop-test .taken) d in let o = term-on (c .before .before .before .before .before .before .before .before .before .loop .inv) (c .before .before .before .before .before .before .before .before .loop-test .taken) d .walking .walk .within in omega arith)
+    (λ c. term-on (c .before .before .before .before .before .before .before .before .before .loop .inv) (c .before .before .before .before .before .before .before .before .loop-test .taken) (rw (from-drop (c .before .before .before .before .before .before .before .before .before .loop .read) (c .before .before .before .before .before .before .before .before .before .before .before .before .before .args .part .now)) at (c .before .before .before .left-term .ensures)))
     (λ c. search needs)
-    (λ c. translating-ended (c .before .loop .inv) (omega arith)))
+    (λ c. translating-ended (c .before .loop .inv) (c .loop-test .left)))
     λ t. left-term-lts.spec (
       left-metavariable-reads.Asked,
       left-metavariable-reads.Learnt,
@@ -94,16 +95,16 @@ pub +left-side+left-term-spec : {M : Type 1} → statement M
     )
     (left-term-at t)
     left-term.Post
-    (λ c. let w = term-words (c .before .before .before .before .pre .1 .0) in search needs)
-    (λ c κs. (c .before .before .before .before .before .before .pre .1 .0, is-metavariable (c .before .before .before .before .before .before .pre .1 .0) (c .before .before .before .before .before .before .pre .1 .1) (c .before .if1 .taken)))
+    (λ c. let w = root-words (c .before .before .before .before .pre .1 .0 .begins) in search needs)
+    (λ c κs. (c .before .before .before .before .before .before .pre .1 .0, is-metavariable (c .before .before .before .before .before .before .pre .1 .0 .begins) (c .before .before .before .before .before .before .pre .1 .1) (c .before .if1 .taken)))
     (λ c. search needs)
     (λ c. search needs)
     (λ c κs. abst-fits (c .before .before .before .before .before .before .pre .1 .0) (c .before .if1 .left))
-    (λ c. let w = term-words (c .before .before .before .before .before .before .before .before .before .pre .1 .0) in search needs)
-    (λ c. let w = term-words (c .before .before .before .before .before .before .before .before .before .pre .1 .0) in search needs)
+    (λ c. let w = root-words (c .before .before .before .before .before .before .before .before .before .pre .1 .0 .begins) in search needs)
+    (λ c. let w = root-words (c .before .before .before .before .before .before .before .before .before .pre .1 .0 .begins) in search needs)
     (λ c. search needs)
     (λ c. let w = body-low (c .before .before .before .before .before .before .before .before .before .before .pre .1 .0) (c .before .before .before .before .before .if1 .left) in search needs)
-    (λ c κs. let s = c .before .before .before .before .before .before .before .before .before .before .before .args in let w = term-words (c .before .before .before .before .before .before .before .before .before .before .before .pre .1 .0) in let d = length-drop 2 (s .part .now) in rw (from-drop 2 (s .part .now)) (omega arith, body-asked (c .before .before .before .before .before .before .before .before .before .before .before .pre .1 .0) (c .before .before .before .before .before .before .if1 .left) (c .before .before .before .before .put-one .ensures)))
+    (λ c κs. let s = c .before .before .before .before .before .before .before .before .before .before .before .args in let w = root-words (c .before .before .before .before .before .before .before .before .before .before .before .pre .1 .0 .begins) in let d = length-drop 2 (s .part .now) in rw (from-drop 2 (s .part .now)) (omega arith, body-asked (c .before .before .before .before .before .before .before .before .before .before .before .pre .1 .0) (c .before .before .before .before .before .before .if1 .left) (c .before .before .before .before .put-one .ensures)))
     (λ c. let w = body-read (c .before .before .before .before .before .before .before .before .before .before .before .before .before .before .before .pre .1 .0) (c .before .before .before .before .before .before .before .before .before .before .if1 .left) (c .before .before .before .before .before .before .before .before .put-one .ensures) (rw (from-drop 2 (c .before .before .before .before .before .before .before .before .before .before .before .before .before .before .before .args .part .now)) at (c .before .before .before .left-side .ensures)) in search needs)
     (λ c. search needs)
     (λ c. body-done (c .before .before .before .before .before .before .before .before .before .before .before .before .before .before .before .pre .1 .0) (c .before .before .before .before .before .before .before .before .before .before .if1 .left) (c .before .before .before .before .before .before .before .before .put-one .ensures) (rw (from-drop 2 (c .before .before .before .before .before .before .before .before .before .before .before .before .before .before .before .args .part .now)) at (c .before .before .before .left-side .ensures)))

@@ -2,7 +2,6 @@
 -- list, any other is its next word.
 use mathlib.Core.Path.{sym, _∙_}
 use Prim.Native.Nat.{_-_}
-use native.Mathlib.Omega.{arith}
 use Rattle.generator.proofs.Matching.{Listing, listing-from, listing-over, listing-fits, listing-on, listing-ended}
 use borrow.Author.Needs.{needs}
 use Rattle.generator.proofs.left.put_others.Statement.{statement}
@@ -30,4 +29,4 @@ put-others-spec =
     (λ c. search needs)
     (λ c. listing-on (c .before .before .before .before .before .before .before .loop .inv) (c .before .before .before .before .before .before .loop-test .taken) (sym (c .before .before .before .before .if1 .left) ∙ c .before .before .before .before .before .occurs-among .ensures) (c .before .before .put-one .ensures))
     (λ c. search needs)
-    (λ c. listing-ended (c .before .loop .inv) (omega arith)))
+    (λ c. listing-ended (c .before .loop .inv) (c .loop-test .left)))

@@ -1,6 +1,5 @@
 -- `left::put_pairs` meets its contract. The pairs of the arguments that are left are still to be written, and the first of them is an old index and
 -- a new one.
-use native.Mathlib.Omega.{arith}
 use lib.ListN.{take}
 use Rattle.documents.specs.Translation.{unvar}
 use Rattle.documents.specs.Instructions.{pairWords}
@@ -28,11 +27,11 @@ put-pairs-spec =
     (λ c. search needs)
     (λ c. search needs)
     (λ c. search needs)
-    (λ c κs. pairing-fits (c .before .before .before .before .loop .inv) (omega arith))
+    (λ c κs. pairing-fits (c .before .before .before .before .loop .inv) (c .before .before .before .loop-test .taken))
     (λ c. search needs)
     (λ c. search needs)
     (λ c. search needs)
     (λ c. search needs)
-    (λ c. pairing-on (c .before .before .before .before .before .before .before .loop .inv) (omega arith) (c .before .before .put-two .ensures))
+    (λ c. pairing-on (c .before .before .before .before .before .before .before .loop .inv) (c .before .before .before .before .before .before .loop-test .taken) (c .before .before .put-two .ensures))
     (λ c. search needs)
-    (λ c. pairing-ended (c .before .loop .inv) (omega arith)))
+    (λ c. pairing-ended (c .before .loop .inv) (c .loop-test .left)))

@@ -4,9 +4,10 @@
 use mathlib.Core.Path.{sym, _∙_}
 use Prim.Native.Nat.{ℕ, _+_, _*_, _<_}
 use native.Mathlib.Omega.{arith}
-use lib.ListN.{length, length-drop}
-use Rattle.tables.proofs.Parts.{from-drop}
-use Rattle.generator.proofs.Building.{root-words, is-metavariable, ready-arguments, ready-body, arguments-within, body-within, fits-variable, builds-variable, fits-arguments, writing-cell, builds-symbol, fits-lambda, fits-inside, writing-adbmal, builds-abstraction, builds-absent, row-of, keys-within, fits-pushi, writing-bodies, builds-metavariable, ready-first, first-within, Joining, joining-from, fits-first-term, joining-on, joining-ended, Keying, keying-from, fits-body, body-length, fits-key, keying-on, keying-ended}
+use lib.ListN.{length}
+use Rattle.tables.proofs.Fronts.{root-words}
+use Rattle.generator.proofs.Matching.{is-metavariable}
+use Rattle.generator.proofs.Building.{falls-along, falls-inside, ready-arguments, ready-body, arguments-within, body-within, fits-variable, builds-variable, fits-arguments, writing-cell, builds-symbol, fits-lambda, fits-inside, writing-adbmal, builds-abstraction, builds-absent, row-of, keys-within, fits-pushi, writing-bodies, builds-metavariable, ready-first, first-within, Joining, joining-from, fits-first-term, joining-on, joining-ended, Keying, keying-from, fits-body, body-length, fits-key, keying-on, keying-ended}
 use borrow.Author.Needs.{needs}
 use borrow.Fn.Kinds.{In}
 use borrow.Fn.PlainCycle.{Measures, is, falls, and}
@@ -35,7 +36,7 @@ abbrev μ-right-bodies : Measures 3 right-bodies-kinds.ps ℕ
 μ-right-bodies κs a = 3 * length (a .0 .now) + 2
 
 abbrev μ-right-metavariable : Measures 3 right-metavariable-kinds.ps ℕ
-μ-right-metavariable κs a = 3 * length (a .0 .now)
+μ-right-metavariable κs a = 3 * length (a .0 .now) + 0
 
 abbrev μ-right-side : Measures 3 right-side-kinds.ps ℕ
 μ-right-side κs a = 3 * length (a .0 .now) + 1
@@ -124,7 +125,7 @@ pub +right-bodies+right-metavariable+right-side+right-terms-spec : {M : Type 1} 
     (λ c. search needs)
     (λ c. search needs)
     (λ c. search needs)
-    (λ c κs. let w = c .before .before .before .loop .inv in (rw (from-drop, length-drop) (omega arith), (ready-first (w .going) (c .before .before .loop-test .taken), fits-body w (c .before .before .loop-test .taken))))
+    (λ c κs. let w = c .before .before .before .loop .inv in (falls-along (w .going) (c .before .before .loop-test .taken) (c .before .before .before .before .before .before .before .pre .0), (ready-first (w .going) (c .before .before .loop-test .taken), fits-body w (c .before .before .loop-test .taken))))
     (λ c. search needs)
     (λ c. search needs)
     (λ c. search needs)
@@ -137,7 +138,7 @@ pub +right-bodies+right-metavariable+right-side+right-terms-spec : {M : Type 1} 
     (λ c. search needs)
     (λ c. keying-on (c .before .before .before .before .before .before .before .before .before .before .before .before .before .loop .inv) (c .before .before .before .before .before .before .before .before .before .before .before .before .loop-test .taken) (c .before .before .before .before .before .before .before .before .before .right-side .ensures) (c .before .before .before .put-two .ensures))
     (λ c. search needs)
-    (λ c. keying-ended (c .before .loop .inv) (omega arith)))
+    (λ c. keying-ended (c .before .loop .inv) (c .loop-test .left)))
     (λ t. right-metavariable-lts.spec (
       find-reads.Asked,
       find-reads.Learnt,
@@ -150,8 +151,8 @@ pub +right-bodies+right-metavariable+right-side+right-terms-spec : {M : Type 1} 
     )
     (right-metavariable-at t)
     right-metavariable.Post
-    (λ c. let r = root-words (c .before .before .before .before .pre .1 .0) in search needs)
-    (λ c. let r = root-words (c .before .before .before .before .before .pre .1 .0) in search needs)
+    (λ c. let r = root-words (c .before .before .before .before .pre .1 .0 .begins) in search needs)
+    (λ c. let r = root-words (c .before .before .before .before .before .pre .1 .0 .begins) in search needs)
     (λ c. search needs)
     (λ c κs. search needs)
     (λ c. search needs)
@@ -166,11 +167,11 @@ pub +right-bodies+right-metavariable+right-side+right-terms-spec : {M : Type 1} 
     (λ c. let p = c .before .before .before .before .before .before .before .before .before .before .before .pre .1 in let w = row-of (p .0) (p .1) (sym (c .before .before .before .location .given .1) ∙ c .before .before .before .before .before .find .ensures) .within in search needs)
     (λ c. let p = c .before .before .before .before .before .before .before .before .before .before .before .pre .1 in let w = row-of (p .0) (p .1) (sym (c .before .before .before .location .given .1) ∙ c .before .before .before .before .before .find .ensures) .low in search needs)
     (λ c κs. let p = c .before .before .before .before .before .before .before .before .before .before .before .pre .1 in fits-pushi (p .0) (p .1) (sym (c .before .before .before .location .given .1) ∙ c .before .before .before .before .before .find .ensures) (p .2))
-    (λ c. let r = root-words (c .before .before .before .before .before .before .before .before .before .before .before .before .before .before .pre .1 .0) in search needs)
-    (λ c. let r = root-words (c .before .before .before .before .before .before .before .before .before .before .before .before .before .before .pre .1 .0) in search needs)
+    (λ c. let r = root-words (c .before .before .before .before .before .before .before .before .before .before .before .before .before .before .pre .1 .0 .begins) in search needs)
+    (λ c. let r = root-words (c .before .before .before .before .before .before .before .before .before .before .before .before .before .before .pre .1 .0 .begins) in search needs)
     (λ c. search needs)
     (λ c. let p = c .before .before .before .before .before .before .before .before .before .before .before .before .before .before .before .pre .1 in let w = row-of (p .0) (p .1) (sym (c .before .before .before .before .before .before .before .location .given .1) ∙ c .before .before .before .before .before .before .before .before .before .find .ensures) .within in search needs)
-    (λ c κs. let p = c .before .before .before .before .before .before .before .before .before .before .before .before .before .before .before .before .pre .1 in let r = root-words (p .0) in let e = sym (c .before .before .before .before .before .before .before .before .location .given .1) ∙ c .before .before .before .before .before .before .before .before .before .before .find .ensures in (rw (from-drop, length-drop) (omega arith), (ready-arguments (p .0), keys-within (p .0) (p .1) e, writing-bodies (p .0) (p .1) e (p .2) (c .before .before .before .before .put-four .ensures) .fits)))
+    (λ c κs. let p = c .before .before .before .before .before .before .before .before .before .before .before .before .before .before .before .before .pre .1 in let e = sym (c .before .before .before .before .before .before .before .before .location .given .1) ∙ c .before .before .before .before .before .before .before .before .before .before .find .ensures in (falls-inside (p .0) 2 0 (omega arith) (c .before .before .before .before .before .before .before .before .before .before .before .before .before .before .before .before .pre .0), (ready-arguments (p .0), keys-within (p .0) (p .1) e, writing-bodies (p .0) (p .1) e (p .2) (c .before .before .before .before .put-four .ensures) .fits)))
     (λ c. let r = arguments-within (c .before .before .before .before .before .before .before .before .before .before .before .before .before .before .before .before .before .before .before .before .pre .1 .0) (c .before .before .before .right-bodies .ensures) in search needs)
     (λ c. search needs)
     (λ c. let p = c .before .before .before .before .before .before .before .before .before .before .before .before .before .before .before .before .before .before .before .before .pre .1 in builds-metavariable (p .0) (p .1) (sym (c .before .before .before .before .before .before .before .before .before .before .before .before .location .given .1) ∙ c .before .before .before .before .before .before .before .before .before .before .before .before .before .before .find .ensures) (p .2) (c .before .before .before .before .before .before .before .before .put-four .ensures) (c .before .before .before .right-bodies .ensures)))
@@ -190,30 +191,30 @@ pub +right-bodies+right-metavariable+right-side+right-terms-spec : {M : Type 1} 
     )
     (right-side-at t)
     right-side.Post
-    (λ c. let r = root-words (c .before .before .before .before .pre .1 .0) in search needs)
-    (λ c. let r = root-words (c .before .before .before .before .before .pre .1 .0) in search needs)
+    (λ c. let r = root-words (c .before .before .before .before .pre .1 .0 .begins) in search needs)
+    (λ c. let r = root-words (c .before .before .before .before .before .pre .1 .0 .begins) in search needs)
     (λ c κs. fits-variable (c .before .before .before .before .before .before .before .pre .1 .0) (c .before .if1 .taken) (c .before .before .before .before .before .before .before .pre .1 .1))
     (λ c. search needs)
     (λ c. builds-variable (c .before .before .before .before .before .before .before .before .before .before .pre .1 .0) (c .before .before .before .before .if1 .taken) (c .before .before .put-two .ensures))
-    (λ c. let r = root-words (c .before .before .before .before .before .before .before .pre .1 .0) in search needs)
-    (λ c. let r = root-words (c .before .before .before .before .before .before .before .pre .1 .0) in search needs)
+    (λ c. let r = root-words (c .before .before .before .before .before .before .before .pre .1 .0 .begins) in search needs)
+    (λ c. let r = root-words (c .before .before .before .before .before .before .before .pre .1 .0 .begins) in search needs)
     (λ c. search needs)
-    (λ c κs. let p = c .before .before .before .before .before .before .before .before .before .pre .1 in let r = root-words (p .0) in (rw (from-drop, length-drop) (omega arith), (ready-arguments (p .0), fits-arguments (p .0) (omega arith) (c .before .before .if2 .taken) (p .1))))
+    (λ c κs. let p = c .before .before .before .before .before .before .before .before .before .pre .1 in (falls-inside (p .0) 2 1 (omega arith) (c .before .before .before .before .before .before .before .before .before .pre .0), (ready-arguments (p .0), fits-arguments (p .0) (c .before .before .before .if1 .left) (c .before .before .if2 .taken) (p .1))))
     (λ c. let r = arguments-within (c .before .before .before .before .before .before .before .before .before .before .before .before .before .pre .1 .0) (c .before .before .before .right-terms .ensures) in search needs)
-    (λ c κs. let p = c .before .before .before .before .before .before .before .before .before .before .before .before .before .before .pre .1 in writing-cell (p .0) (omega arith) (c .before .before .before .before .before .before .before .if2 .taken) (p .1) (c .before .before .before .before .right-terms .ensures) .fits)
+    (λ c κs. let p = c .before .before .before .before .before .before .before .before .before .before .before .before .before .before .pre .1 in writing-cell (p .0) (c .before .before .before .before .before .before .before .before .if1 .left) (c .before .before .before .before .before .before .before .if2 .taken) (p .1) (c .before .before .before .before .right-terms .ensures) .fits)
     (λ c. search needs)
-    (λ c. let p = c .before .before .before .before .before .before .before .before .before .before .before .before .before .before .before .before .before .pre .1 in builds-symbol (p .0) (omega arith) (c .before .before .before .before .before .before .before .before .before .before .if2 .taken) (p .1) (c .before .before .before .before .before .before .before .right-terms .ensures) (c .before .before .put-three .ensures))
+    (λ c. let p = c .before .before .before .before .before .before .before .before .before .before .before .before .before .before .before .before .before .pre .1 in builds-symbol (p .0) (c .before .before .before .before .before .before .before .before .before .before .before .if1 .left) (c .before .before .before .before .before .before .before .before .before .before .if2 .taken) (p .1) (c .before .before .before .before .before .before .before .right-terms .ensures) (c .before .before .put-three .ensures))
     (λ c κs. let p = c .before .before .before .before .before .before .before .before .before .pre .1 in fits-lambda (p .0) (c .before .if3 .taken) (p .1))
-    (λ c. let r = root-words (c .before .before .before .before .before .before .before .before .before .before .before .before .pre .1 .0) in search needs)
-    (λ c. let r = root-words (c .before .before .before .before .before .before .before .before .before .before .before .before .pre .1 .0) in search needs)
+    (λ c. let r = root-words (c .before .before .before .before .before .before .before .before .before .before .before .before .pre .1 .0 .begins) in search needs)
+    (λ c. let r = root-words (c .before .before .before .before .before .before .before .before .before .before .before .before .pre .1 .0 .begins) in search needs)
     (λ c. search needs)
     (λ c. search needs)
-    (λ c κs. let p = c .before .before .before .before .before .before .before .before .before .before .before .before .before .before .pre .1 in let r = root-words (p .0) in (rw (from-drop, length-drop) (omega arith), (ready-body (p .0) (c .before .before .before .before .before .before .if3 .taken), fits-inside (p .0) (c .before .before .before .before .before .before .if3 .taken) (p .1) (c .before .before .before .before .put-one .ensures))))
+    (λ c κs. let p = c .before .before .before .before .before .before .before .before .before .before .before .before .before .before .pre .1 in (falls-inside (p .0) 1 1 (omega arith) (c .before .before .before .before .before .before .before .before .before .before .before .before .before .before .pre .0), (ready-body (p .0) (c .before .before .before .before .before .before .if3 .taken), fits-inside (p .0) (c .before .before .before .before .before .before .if3 .taken) (p .1) (c .before .before .before .before .put-one .ensures))))
     (λ c. let r = body-within (c .before .before .before .before .before .before .before .before .before .before .before .before .before .before .before .before .before .before .pre .1 .0) (c .before .before .before .before .before .before .before .before .before .before .if3 .taken) (c .before .before .before .right-side .ensures) in search needs)
     (λ c κs. let p = c .before .before .before .before .before .before .before .before .before .before .before .before .before .before .before .before .before .before .before .pre .1 in writing-adbmal (p .0) (c .before .before .before .before .before .before .before .before .before .before .before .if3 .taken) (p .1) (c .before .before .before .before .before .before .before .before .before .put-one .ensures) (c .before .before .before .before .right-side .ensures) .fits)
     (λ c. search needs)
     (λ c. let p = c .before .before .before .before .before .before .before .before .before .before .before .before .before .before .before .before .before .before .before .before .before .before .pre .1 in builds-abstraction (p .0) (c .before .before .before .before .before .before .before .before .before .before .before .before .before .before .if3 .taken) (p .1) (c .before .before .before .before .before .before .before .before .before .before .before .before .put-one .ensures) (c .before .before .before .before .before .before .before .right-side .ensures) (c .before .before .put-one2 .ensures))
-    (λ c κs. let p = c .before .before .before .before .before .before .before .before .before .pre .1 in (omega arith, (p .0, is-metavariable (p .0) (omega arith) (c .before .if3 .left), p .1)))
+    (λ c κs. let p = c .before .before .before .before .before .before .before .before .before .pre .1 in (omega arith, (p .0, is-metavariable (p .0 .begins) (c .before .before .if2 .left) (c .before .if3 .left), p .1)))
     (λ c. search needs)
     (λ c. search needs))
     λ t. right-terms-lts.spec
@@ -227,10 +228,10 @@ pub +right-bodies+right-metavariable+right-side+right-terms-spec : {M : Type 1} 
     (λ c. search needs)
     (λ c. search needs)
     (λ c. search needs)
-    (λ c κs. let w = c .before .before .before .loop .inv in (rw (from-drop, length-drop) (omega arith), (ready-first (w .going) (c .before .before .loop-test .taken), fits-first-term w (c .before .before .loop-test .taken))))
+    (λ c κs. let w = c .before .before .before .loop .inv in (falls-along (w .going) (c .before .before .loop-test .taken) (c .before .before .before .before .before .before .before .pre .0), (ready-first (w .going) (c .before .before .loop-test .taken), fits-first-term w (c .before .before .loop-test .taken))))
     (λ c. search needs)
     (λ c. let o = first-within (c .before .before .before .before .before .before .before .loop .inv .going) (c .before .before .before .before .before .before .loop-test .taken) (c .before .before .before .right-side .ensures) in search needs)
     (λ c. search needs)
     (λ c. joining-on (c .before .before .before .before .before .before .before .loop .inv) (c .before .before .before .before .before .before .loop-test .taken) (c .before .before .before .right-side .ensures))
     (λ c. search needs)
-    (λ c. joining-ended (c .before .loop .inv) (omega arith))
+    (λ c. joining-ended (c .before .loop .inv) (c .loop-test .left))

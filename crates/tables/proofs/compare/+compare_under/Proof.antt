@@ -1,14 +1,13 @@
 -- `compare::compare_under` meets its contract. Both walks stand at the same place and owe as many terms, and whether those agree is what was asked of
 -- the first two: bodies that agree are equally long. What falls from call to call is the old part's length.
 use mathlib.Core.Path.{sym, _∙_}
-use Prim.Native.Nat.{_+_, _-_, ℕ, _<_}
-use native.Mathlib.Omega.{arith}
-use lib.ListN.{length, length-drop}
+use Prim.Native.Nat.{_-_, ℕ, _<_}
+use lib.ListN.{length}
 use borrow.Author.Tests.{not-true, not-false}
 use borrow.Author.Needs.{needs}
 use borrow.Fn.Kinds.{In}
 use borrow.Fn.PlainCycle.{Measures, is, falls, and}
-use Rattle.tables.proofs.Parts.{from-drop}
+use Rattle.tables.proofs.Walks.{body-falls, body-room}
 use Rattle.tables.proofs.Renamed.{Comparing, comparing-from, comparing-variable, variable-differs, word-differs, count-differs, comparing-applied, bodies, comparing-body, body-differs, comparing-ended}
 use Rattle.tables.proofs.compare.+compare_under.{statement}
 use Rattle.tables.proofs.compare.+compare_under.Tie.{close}
@@ -55,16 +54,12 @@ pub +compare-under-spec : {M : Type 1} → statement M
     (λ c. search needs)
     (λ c. search needs)
     (λ c κs. search needs)
-    (λ c. variable-differs (c .before .before .before .before .before .before .loop .inv) (omega arith) (c .before .before .if1 .taken) (sym (c .before .is-same-variable .ensures) ∙ not-true _ (c .if2 .taken)))
+    (λ c. variable-differs (c .before .before .before .before .before .before .loop .inv) (c .before .before .before .before .before .loop-test .taken) (c .before .before .if1 .taken) (sym (c .before .is-same-variable .ensures) ∙ not-true _ (c .if2 .taken)))
     (λ c. search needs)
     (λ c. search needs)
     (λ c. search needs)
-    (λ c. comparing-variable (c .before .before .before .before .before .before .loop .inv) (omega arith) (c .before .before .if1 .taken) (sym (c .before .is-same-variable .ensures) ∙ not-false _ (c .if2 .left)))
-    (λ c. word-differs (c .before .before .before .before .before .loop .inv) (omega arith) (c .before .if1 .left) (c .if3 .taken))
-    (λ c. search needs)
-    (λ c. search needs)
-    (λ c. search needs)
-    (λ c. search needs)
+    (λ c. comparing-variable (c .before .before .before .before .before .before .loop .inv) (c .before .before .before .before .before .loop-test .taken) (c .before .before .if1 .taken) (sym (c .before .is-same-variable .ensures) ∙ not-false _ (c .if2 .left)))
+    (λ c. word-differs (c .before .before .before .before .before .loop .inv) (c .before .before .before .before .loop-test .taken) (c .before .if1 .left) (c .if3 .taken))
     (λ c. search needs)
     (λ c. search needs)
     (λ c. search needs)
@@ -72,26 +67,30 @@ pub +compare-under-spec : {M : Type 1} → statement M
     (λ c. search needs)
     (λ c. search needs)
     (λ c. search needs)
-    (λ c κs. let b = bodies (c .before .before .before .before .before .before .before .before .loop .inv) (omega arith) (c .before .before .if4 .taken) (omega arith) in (rw (from-drop, length-drop) (omega arith), (b .0, b .1, rw (from-drop (c .before .before .before .before .before .before .before .before .loop .at + 2) (c .before .before .before .before .before .before .before .before .before .before .before .before .args .old .now), length-drop) (omega arith))))
-    (λ c. search needs)
-    (λ c. search needs)
-    (λ c. body-differs (c .before .before .before .before .before .before .before .before .before .before .before .loop .inv) (omega arith) (c .before .before .before .before .before .if4 .taken) (omega arith) (sym (c .enum-told .given .1) ∙ c .before .before .compare-under .ensures))
-    (λ c. search needs)
-    (λ c. let o = comparing-body (c .before .before .before .before .before .before .before .before .before .before .before .before .loop .inv) (omega arith) _ (c .before .before .before .before .before .before .if4 .taken) (omega arith) (sym (c .before .words .given .1) ∙ c .before .before .before .compare-under .ensures) in search needs)
-    (λ c. let o = comparing-body (c .before .before .before .before .before .before .before .before .before .before .before .before .loop .inv) (omega arith) _ (c .before .before .before .before .before .before .if4 .taken) (omega arith) (sym (c .before .words .given .1) ∙ c .before .before .before .compare-under .ensures) in search needs)
-    (λ c. let o = comparing-body (c .before .before .before .before .before .before .before .before .before .before .before .before .loop .inv) (omega arith) _ (c .before .before .before .before .before .before .if4 .taken) (omega arith) (sym (c .before .words .given .1) ∙ c .before .before .before .compare-under .ensures) in search needs)
-    (λ c. comparing-body (c .before .before .before .before .before .before .before .before .before .before .before .before .loop .inv) (omega arith) _ (c .before .before .before .before .before .before .if4 .taken) (omega arith) (sym (c .before .words .given .1) ∙ c .before .before .before .compare-under .ensures))
     (λ c. search needs)
     (λ c. search needs)
     (λ c. search needs)
     (λ c. search needs)
+    (λ c κs. let b = bodies (c .before .before .before .before .before .before .before .before .loop .inv) (c .before .before .before .before .before .before .before .loop-test .taken) (c .before .before .if4 .taken) (c .before .before .before .if3 .left) in (body-falls (c .before .before .before .before .before .before .before .before .loop .inv .walk .walk) (c .before .before .before .before .before .before .before .loop-test .taken) (c .before .before .before .before .before .before .before .before .before .before .before .before .pre .0), (b .0, b .1, body-room (c .before .before .before .before .before .before .before .before .loop .inv .walk .walk) (c .before .before .before .before .before .before .before .loop-test .taken) _ (c .before .before .before .before .before .before .before .before .before .before .before .before .pre .1 .2))))
     (λ c. search needs)
     (λ c. search needs)
-    (λ c. count-differs (c .before .before .before .before .before .before .before .before .before .loop .inv) (omega arith) (c .before .before .before .before .before .if1 .left) (c .if5 .taken))
+    (λ c. body-differs (c .before .before .before .before .before .before .before .before .before .before .before .loop .inv) (c .before .before .before .before .before .before .before .before .before .before .loop-test .taken) (c .before .before .before .before .before .if4 .taken) (c .before .before .before .before .before .before .if3 .left) (sym (c .enum-told .given .1) ∙ c .before .before .compare-under .ensures))
     (λ c. search needs)
-    (λ c. let o = comparing-applied (c .before .before .before .before .before .before .before .before .before .loop .inv) (omega arith) (c .before .before .before .before .before .if1 .left) (c .before .before .before .if4 .left) (omega arith) (omega arith) in search needs)
-    (λ c. let o = comparing-applied (c .before .before .before .before .before .before .before .before .before .loop .inv) (omega arith) (c .before .before .before .before .before .if1 .left) (c .before .before .before .if4 .left) (omega arith) (omega arith) in search needs)
+    (λ c. let o = comparing-body (c .before .before .before .before .before .before .before .before .before .before .before .before .loop .inv) (c .before .before .before .before .before .before .before .before .before .before .before .loop-test .taken) _ (c .before .before .before .before .before .before .if4 .taken) (c .before .before .before .before .before .before .before .if3 .left) (sym (c .before .words .given .1) ∙ c .before .before .before .compare-under .ensures) in search needs)
+    (λ c. let o = comparing-body (c .before .before .before .before .before .before .before .before .before .before .before .before .loop .inv) (c .before .before .before .before .before .before .before .before .before .before .before .loop-test .taken) _ (c .before .before .before .before .before .before .if4 .taken) (c .before .before .before .before .before .before .before .if3 .left) (sym (c .before .words .given .1) ∙ c .before .before .before .compare-under .ensures) in search needs)
+    (λ c. let o = comparing-body (c .before .before .before .before .before .before .before .before .before .before .before .before .loop .inv) (c .before .before .before .before .before .before .before .before .before .before .before .loop-test .taken) _ (c .before .before .before .before .before .before .if4 .taken) (c .before .before .before .before .before .before .before .if3 .left) (sym (c .before .words .given .1) ∙ c .before .before .before .compare-under .ensures) in search needs)
+    (λ c. comparing-body (c .before .before .before .before .before .before .before .before .before .before .before .before .loop .inv) (c .before .before .before .before .before .before .before .before .before .before .before .loop-test .taken) _ (c .before .before .before .before .before .before .if4 .taken) (c .before .before .before .before .before .before .before .if3 .left) (sym (c .before .words .given .1) ∙ c .before .before .before .compare-under .ensures))
     (λ c. search needs)
     (λ c. search needs)
-    (λ c. comparing-applied (c .before .before .before .before .before .before .before .before .before .loop .inv) (omega arith) (c .before .before .before .before .before .if1 .left) (c .before .before .before .if4 .left) (omega arith) (omega arith))
-    (λ c. comparing-ended (c .before .loop .inv) (omega arith))
+    (λ c. search needs)
+    (λ c. search needs)
+    (λ c. search needs)
+    (λ c. search needs)
+    (λ c. count-differs (c .before .before .before .before .before .before .before .before .before .loop .inv) (c .before .before .before .before .before .before .before .before .loop-test .taken) (c .before .before .before .before .before .if1 .left) (c .if5 .taken))
+    (λ c. search needs)
+    (λ c. let o = comparing-applied (c .before .before .before .before .before .before .before .before .before .loop .inv) (c .before .before .before .before .before .before .before .before .loop-test .taken) (c .before .before .before .before .before .if1 .left) (c .before .before .before .if4 .left) (c .before .before .before .before .if3 .left) (c .if5 .left) in search needs)
+    (λ c. let o = comparing-applied (c .before .before .before .before .before .before .before .before .before .loop .inv) (c .before .before .before .before .before .before .before .before .loop-test .taken) (c .before .before .before .before .before .if1 .left) (c .before .before .before .if4 .left) (c .before .before .before .before .if3 .left) (c .if5 .left) in search needs)
+    (λ c. search needs)
+    (λ c. search needs)
+    (λ c. comparing-applied (c .before .before .before .before .before .before .before .before .before .loop .inv) (c .before .before .before .before .before .before .before .before .loop-test .taken) (c .before .before .before .before .before .if1 .left) (c .before .before .before .if4 .left) (c .before .before .before .before .if3 .left) (c .if5 .left))
+    (λ c. comparing-ended (c .before .loop .inv) (c .loop-test .left))

@@ -3,11 +3,11 @@
 use mathlib.Core.Path.{sym, _∙_}
 use Prim.Native.Nat.{_-_, ℕ, _<_}
 use native.Mathlib.Omega.{arith}
-use lib.ListN.{length, length-drop}
+use lib.ListN.{length}
 use borrow.Author.Needs.{needs}
 use borrow.Fn.Kinds.{In}
 use borrow.Fn.PlainCycle.{Measures, is, falls, and}
-use Rattle.tables.proofs.Parts.{from-drop}
+use Rattle.tables.proofs.Walks.{body-falls, body-room}
 use Rattle.tables.proofs.Free.{Looking, looking-from, looking-variable, variable-marked, looking-applied, body, looking-body, body-marked, looking-ended}
 use Rattle.tables.proofs.forbid.+look.{statement}
 use Rattle.tables.proofs.forbid.+look.Tie.{close}
@@ -47,33 +47,33 @@ pub +look-spec : {M : Type 1} → statement M
     (λ c. search needs)
     (λ c. search needs)
     (λ c κs. search needs)
-    (λ c. variable-marked (c .before .before .before .before .before .loop .inv) (omega arith) (c .before .before .if1 .taken) (sym (c .before .is-marked .ensures) ∙ c .if2 .taken))
+    (λ c. variable-marked (c .before .before .before .before .before .loop .inv) (c .before .before .before .before .loop-test .taken) (c .before .before .if1 .taken) (sym (c .before .is-marked .ensures) ∙ c .if2 .taken))
     (λ c. search needs)
     (λ c. search needs)
     (λ c. search needs)
-    (λ c. looking-variable (c .before .before .before .before .before .loop .inv) (omega arith) (c .before .before .if1 .taken) (sym (c .before .is-marked .ensures) ∙ c .if2 .left))
-    (λ c. search needs)
-    (λ c. search needs)
-    (λ c. search needs)
-    (λ c. search needs)
-    (λ c. search needs)
-    (λ c. search needs)
-    (λ c κs. (rw (from-drop, length-drop) (omega arith), (body (c .before .before .before .before .before .loop .inv) (omega arith) (c .before .if3 .taken), rw (from-drop, length-drop) (omega arith))))
-    (λ c. search needs)
-    (λ c. search needs)
-    (λ c. body-marked (c .before .before .before .before .before .before .before .before .loop .inv) (omega arith) (c .before .before .before .before .if3 .taken) (sym (c .enum-told .given .1) ∙ c .before .before .look .ensures))
-    (λ c. search needs)
-    (λ c. let o = looking-body (c .before .before .before .before .before .before .before .before .before .loop .inv) (omega arith) _ (c .before .before .before .before .before .if3 .taken) (sym (c .before .words .given .1) ∙ c .before .before .before .look .ensures) in search needs)
-    (λ c. let o = looking-body (c .before .before .before .before .before .before .before .before .before .loop .inv) (omega arith) _ (c .before .before .before .before .before .if3 .taken) (sym (c .before .words .given .1) ∙ c .before .before .before .look .ensures) in search needs)
-    (λ c. search needs)
-    (λ c. looking-body (c .before .before .before .before .before .before .before .before .before .loop .inv) (omega arith) _ (c .before .before .before .before .before .if3 .taken) (sym (c .before .words .given .1) ∙ c .before .before .before .look .ensures))
+    (λ c. looking-variable (c .before .before .before .before .before .loop .inv) (c .before .before .before .before .loop-test .taken) (c .before .before .if1 .taken) (sym (c .before .is-marked .ensures) ∙ c .if2 .left))
     (λ c. search needs)
     (λ c. search needs)
     (λ c. search needs)
     (λ c. search needs)
-    (λ c. let o = looking-applied (c .before .before .before .before .before .loop .inv) (omega arith) (omega arith) (c .before .if3 .left) in search needs)
-    (λ c. let o = looking-applied (c .before .before .before .before .before .loop .inv) (omega arith) (omega arith) (c .before .if3 .left) in search needs)
     (λ c. search needs)
     (λ c. search needs)
-    (λ c. looking-applied (c .before .before .before .before .before .loop .inv) (omega arith) (omega arith) (c .before .if3 .left))
-    (λ c. looking-ended (c .before .loop .inv) (omega arith))
+    (λ c κs. (body-falls (c .before .before .before .before .before .loop .inv .walk .walk) (c .before .before .before .before .loop-test .taken) (c .before .before .before .before .before .before .before .pre .0), (body (c .before .before .before .before .before .loop .inv) (c .before .before .before .before .loop-test .taken) (c .before .if3 .taken), body-room (c .before .before .before .before .before .loop .inv .walk .walk) (c .before .before .before .before .loop-test .taken) _ (c .before .before .before .before .before .before .before .pre .1 .1))))
+    (λ c. search needs)
+    (λ c. search needs)
+    (λ c. body-marked (c .before .before .before .before .before .before .before .before .loop .inv) (c .before .before .before .before .before .before .before .loop-test .taken) (c .before .before .before .before .if3 .taken) (sym (c .enum-told .given .1) ∙ c .before .before .look .ensures))
+    (λ c. search needs)
+    (λ c. let o = looking-body (c .before .before .before .before .before .before .before .before .before .loop .inv) (c .before .before .before .before .before .before .before .before .loop-test .taken) _ (c .before .before .before .before .before .if3 .taken) (sym (c .before .words .given .1) ∙ c .before .before .before .look .ensures) in search needs)
+    (λ c. let o = looking-body (c .before .before .before .before .before .before .before .before .before .loop .inv) (c .before .before .before .before .before .before .before .before .loop-test .taken) _ (c .before .before .before .before .before .if3 .taken) (sym (c .before .words .given .1) ∙ c .before .before .before .look .ensures) in search needs)
+    (λ c. search needs)
+    (λ c. looking-body (c .before .before .before .before .before .before .before .before .before .loop .inv) (c .before .before .before .before .before .before .before .before .loop-test .taken) _ (c .before .before .before .before .before .if3 .taken) (sym (c .before .words .given .1) ∙ c .before .before .before .look .ensures))
+    (λ c. search needs)
+    (λ c. search needs)
+    (λ c. search needs)
+    (λ c. search needs)
+    (λ c. let o = looking-applied (c .before .before .before .before .before .loop .inv) (c .before .before .before .before .loop-test .taken) (omega arith) (c .before .if3 .left) in search needs)
+    (λ c. let o = looking-applied (c .before .before .before .before .before .loop .inv) (c .before .before .before .before .loop-test .taken) (omega arith) (c .before .if3 .left) in search needs)
+    (λ c. search needs)
+    (λ c. search needs)
+    (λ c. looking-applied (c .before .before .before .before .before .loop .inv) (c .before .before .before .before .loop-test .taken) (omega arith) (c .before .if3 .left))
+    (λ c. looking-ended (c .before .loop .inv) (c .loop-test .left))

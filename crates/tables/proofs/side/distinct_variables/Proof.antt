@@ -1,7 +1,6 @@
 -- `side::distinct_variables` meets its contract. All terms are variables by the first call; whether those left are distinct is what was asked of
 -- all, since each that was passed is not among the ones behind it.
 use mathlib.Core.Path.{_≡_, refl, sym, _∙_}
-use native.Mathlib.Omega.{arith}
 use mathlib.Core.Bool.{true}
 use lib.ListN.{drop}
 use borrow.Author.Tests.{not-true, not-false}
@@ -38,8 +37,8 @@ distinct-variables-spec =
     (λ c. search needs)
     (λ c. search needs)
     (λ c. search needs)
-    (λ c κs. let l = c .before .before .before .loop in let v = is-variable (l .inv .0) (omega arith) (l .inv .1) in rw from-drop (walk-variable (l .inv .0) (omega arith) v .begins, sym (variables-behind (l .inv .0) (omega arith) v) ∙ l .inv .1))
-    (λ c. let l = c .before .before .before .before .before .loop in rw (distinct-here (l .inv .0) (omega arith) (l .inv .1), rw from-drop at (sym (c .before .occurs-among .ensures) ∙ c .if2 .taken)) at (l .inv .2))
+    (λ c κs. let l = c .before .before .before .loop in let v = is-variable (l .inv .0) (c .before .before .loop-test .taken) (l .inv .1) in rw from-drop (walk-variable (l .inv .0) (c .before .before .loop-test .taken) v .begins, sym (variables-behind (l .inv .0) (c .before .before .loop-test .taken) v) ∙ l .inv .1))
+    (λ c. let l = c .before .before .before .before .before .loop in rw (distinct-here (l .inv .0) (c .before .before .before .before .loop-test .taken) (l .inv .1), rw from-drop at (sym (c .before .occurs-among .ensures) ∙ c .if2 .taken)) at (l .inv .2))
     (λ c. search needs)
-    (λ c. let l = c .before .before .before .before .before .loop in let v = is-variable (l .inv .0) (omega arith) (l .inv .1) in (walk-variable (l .inv .0) (omega arith) v, sym (variables-behind (l .inv .0) (omega arith) v) ∙ l .inv .1, rw (distinct-here (l .inv .0) (omega arith) (l .inv .1), rw from-drop at (sym (c .before .occurs-among .ensures) ∙ c .if2 .left)) at (l .inv .2)))
-    (λ c. let l = c .before .loop in rw (ended (l .inv .0) (omega arith)) at (l .inv .2)))
+    (λ c. let l = c .before .before .before .before .before .loop in let v = is-variable (l .inv .0) (c .before .before .before .before .loop-test .taken) (l .inv .1) in (walk-variable (l .inv .0) (c .before .before .before .before .loop-test .taken) v, sym (variables-behind (l .inv .0) (c .before .before .before .before .loop-test .taken) v) ∙ l .inv .1, rw (distinct-here (l .inv .0) (c .before .before .before .before .loop-test .taken) (l .inv .1), rw from-drop at (sym (c .before .occurs-among .ensures) ∙ c .if2 .left)) at (l .inv .2)))
+    (λ c. let l = c .before .loop in rw (ended (l .inv .0) (c .loop-test .left)) at (l .inv .2)))

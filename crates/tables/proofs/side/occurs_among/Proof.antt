@@ -2,7 +2,6 @@
 -- index; whether the index is among those left is what was asked of all.
 use borrow.Author.Tests.{eq-eqb, ne-eqb}
 use mathlib.Core.Path.{_≡_, refl}
-use native.Mathlib.Omega.{arith}
 use mathlib.Core.Bool.{true}
 use lib.ListN.{drop}
 use Rattle.documents.specs.Lists.{member}
@@ -29,9 +28,9 @@ occurs-among-spec =
     (λ c. (walk-from (c .pre .0), c .pre .1, refl))
     (λ c. search needs)
     (λ c. search needs)
-    (λ c. let l = c .before .before .before .loop in let v = is-variable (l .inv .0) (omega arith) (l .inv .1) in rw (freevars-here (l .inv .0) (omega arith) v, eq-eqb _ _ (c .if1 .taken)) at (l .inv .2))
+    (λ c. let l = c .before .before .before .loop in let v = is-variable (l .inv .0) (c .before .before .loop-test .taken) (l .inv .1) in rw (freevars-here (l .inv .0) (c .before .before .loop-test .taken) v, eq-eqb _ _ (c .if1 .taken)) at (l .inv .2))
     (λ c. search needs)
     (λ c. search needs)
     (λ c. search needs)
-    (λ c. let l = c .before .before .before .loop in let v = is-variable (l .inv .0) (omega arith) (l .inv .1) in (walk-variable (l .inv .0) (omega arith) v, rw (variables-behind (l .inv .0) (omega arith) v) at (l .inv .1), rw (freevars-here (l .inv .0) (omega arith) v, ne-eqb _ _ (c .if1 .left)) at (l .inv .2)))
-    (λ c. let l = c .before .loop in rw (ended (l .inv .0) (omega arith)) at (l .inv .2)))
+    (λ c. let l = c .before .before .before .loop in let v = is-variable (l .inv .0) (c .before .before .loop-test .taken) (l .inv .1) in (walk-variable (l .inv .0) (c .before .before .loop-test .taken) v, rw (variables-behind (l .inv .0) (c .before .before .loop-test .taken) v) at (l .inv .1), rw (freevars-here (l .inv .0) (c .before .before .loop-test .taken) v, ne-eqb _ _ (c .if1 .left)) at (l .inv .2)))
+    (λ c. let l = c .before .loop in rw (ended (l .inv .0) (c .loop-test .left)) at (l .inv .2)))
