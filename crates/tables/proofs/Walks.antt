@@ -118,15 +118,15 @@ module _ {t : List ℕ} {a n : ℕ} (w : Walk t a n) (h : 0 < n) where
   pub walk-variable : getD t a 0 < 65536 → Walk t (a + 2) (n - 1)
   walk-variable v = walk-at (at-variable t a n (w .begins) h v .begins) (let q = w .within in omega arith)
 
-  -- the body of an abstraction is a part of its own, and shorter by what the abstraction is higher
+  -- the body of an abstraction is a part of its own, and shorter by more than it is deeper
   pub walk-body : getD t a 0 ≡ 196608 → Begins 1 (from (a + 2) t)
   walk-body v = rw (from-drop (a + 2) t) (at-abstraction t a n (w .begins) h v .body)
 
   pub body-falls : {s : ℕ} → length t ≡ s → length (from (a + 2) t) < s
   body-falls e = let q = w .within in rw (from-drop (a + 2) t, length-drop (a + 2) t) (omega arith)
 
-  pub body-room : (j : ℕ) {s : ℕ} → j + length t < s → j + 1 + length (from (a + 2) t) < s
-  body-room j r = let q = w .within in rw (from-drop (a + 2) t, length-drop (a + 2) t) (omega arith)
+  pub body-room : (j k : ℕ) {s : ℕ} → j + length t < s → k ≤ j + 1 → k + length (from (a + 2) t) < s
+  body-room j k r d = let q = w .within in rw (from-drop (a + 2) t, length-drop (a + 2) t) (omega arith)
 
 -- at its end
 pub ended : {t : List ℕ} {a n : ℕ} → Walk t a n → n ≤ 0 → terms n (drop a t) ≡ Nil

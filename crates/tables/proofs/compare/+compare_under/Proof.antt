@@ -2,6 +2,7 @@
 -- the first two: bodies that agree are equally long. What falls from call to call is the old part's length.
 use mathlib.Core.Path.{sym, _∙_}
 use Prim.Native.Nat.{_-_, ℕ, _<_}
+use native.Mathlib.Omega.{arith}
 use lib.ListN.{length}
 use borrow.Author.Tests.{not-true, not-false}
 use borrow.Author.Needs.{needs}
@@ -71,7 +72,7 @@ pub +compare-under-spec : {M : Type 1} → statement M
     (λ c. search needs)
     (λ c. search needs)
     (λ c. search needs)
-    (λ c κs. let b = bodies (c .before .before .before .before .before .before .before .before .loop .inv) (c .before .before .before .before .before .before .before .loop-test .taken) (c .before .before .if4 .taken) (c .before .before .before .if3 .left) in (body-falls (c .before .before .before .before .before .before .before .before .loop .inv .walk .walk) (c .before .before .before .before .before .before .before .loop-test .taken) (c .before .before .before .before .before .before .before .before .before .before .before .before .pre .0), (b .0, b .1, body-room (c .before .before .before .before .before .before .before .before .loop .inv .walk .walk) (c .before .before .before .before .before .before .before .loop-test .taken) _ (c .before .before .before .before .before .before .before .before .before .before .before .before .pre .1 .2))))
+    (λ c κs. let b = bodies (c .before .before .before .before .before .before .before .before .loop .inv) (c .before .before .before .before .before .before .before .loop-test .taken) (c .before .before .if4 .taken) (c .before .before .before .if3 .left) in (body-falls (c .before .before .before .before .before .before .before .before .loop .inv .walk .walk) (c .before .before .before .before .before .before .before .loop-test .taken) (c .before .before .before .before .before .before .before .before .before .before .before .before .pre .0), (b .0, b .1, body-room (c .before .before .before .before .before .before .before .before .loop .inv .walk .walk) (c .before .before .before .before .before .before .before .loop-test .taken) _ _ (c .before .before .before .before .before .before .before .before .before .before .before .before .pre .1 .2) (omega arith))))
     (λ c. search needs)
     (λ c. search needs)
     (λ c. body-differs (c .before .before .before .before .before .before .before .before .before .before .before .loop .inv) (c .before .before .before .before .before .before .before .before .before .before .loop-test .taken) (c .before .before .before .before .before .if4 .taken) (c .before .before .before .before .before .before .if3 .left) (sym (c .enum-told .given .1) ∙ c .before .before .compare-under .ensures))

@@ -58,7 +58,7 @@ pub +look-spec : {M : Type 1} → statement M
     (λ c. search needs)
     (λ c. search needs)
     (λ c. search needs)
-    (λ c κs. (body-falls (c .before .before .before .before .before .loop .inv .walk .walk) (c .before .before .before .before .loop-test .taken) (c .before .before .before .before .before .before .before .pre .0), (body (c .before .before .before .before .before .loop .inv) (c .before .before .before .before .loop-test .taken) (c .before .if3 .taken), body-room (c .before .before .before .before .before .loop .inv .walk .walk) (c .before .before .before .before .loop-test .taken) _ (c .before .before .before .before .before .before .before .pre .1 .1))))
+    (λ c κs. (body-falls (c .before .before .before .before .before .loop .inv .walk .walk) (c .before .before .before .before .loop-test .taken) (c .before .before .before .before .before .before .before .pre .0), (body (c .before .before .before .before .before .loop .inv) (c .before .before .before .before .loop-test .taken) (c .before .if3 .taken), body-room (c .before .before .before .before .before .loop .inv .walk .walk) (c .before .before .before .before .loop-test .taken) _ _ (c .before .before .before .before .before .before .before .pre .1 .1) (omega arith))))
     (λ c. search needs)
     (λ c. search needs)
     (λ c. body-marked (c .before .before .before .before .before .before .before .before .loop .inv) (c .before .before .before .before .before .before .before .loop-test .taken) (c .before .before .before .before .if3 .taken) (sym (c .enum-told .given .1) ∙ c .before .before .look .ensures))
