@@ -467,6 +467,11 @@ number-refused t {r} w e p = go (passes t) (sym p ∙ e)
     go true e = never (cc)
     go false e = let z : w ≡ DoesNotPass = cc in rw z
 
+-- what a caller knows of code that does not pass
+pub not-passed : {w : Refusal} (q : Bool) → Refused w ≡ verdict q → q ≡ false
+not-passed true e = never (cc)
+not-passed false e = refl
+
 -- what a caller knows of code that passes
 pub verdict-passes : (code : List ℕ) {r : Checked} → r ≡ verdict (passes code) → r ≡ Passes → passes code ≡ true
 verdict-passes code e f = go (passes code) (sym f ∙ e)

@@ -1,14 +1,15 @@
 -- Tests and answers: what a test that passed says, and what an answer that came through a test says.
 use mathlib.Core.Path.{_≡_, refl, sym, ap, fun-ext}
-use Prim.Native.Nat.{ℕ, _+_, _<_, max}
+use Prim.Native.Nat.{ℕ, suc, _+_, _<_, max}
+use native.Mathlib.Nat.{add-zero}
 use native.Mathlib.Numerals.{add-one}
 use native.Mathlib.Omega.{arith}
 use mathlib.Core.Bool.{Bool, true, false, not, _&&_, _||_, cond, or-assoc}
 use mathlib.Core.Option.{Option, none, some}
 use mathlib.Core.List.{List, [], _∷_, _++_}
 use lib.Dec.{T, eqb, leb}
-use lib.ListN.{length, getD, drop}
-use lib.Seq.{drop-cons}
+use lib.ListN.{length, getD, set, drop}
+use lib.Seq.{sets, drop-cons}
 use borrow.Author.Tests.{eqb-true, leb-true, leb-false, le-leb, lt-leb}
 use Rattle.documents.specs.Lists.{every, member, need, andThen}
 
@@ -36,6 +37,10 @@ of-and false b h = absurd h
 pub and-of : (a b : Bool) → T a → T b → T (a && b)
 and-of true b p q = q
 and-of false b p q = absurd p
+
+pub both-true : (a b : Bool) → a && b ≡ true → (a ≡ true) × (b ≡ true)
+both-true true b e = (refl, e)
+both-true false b e = never (cc)
 
 -- a claim by cases on a test, with what the test said
 pub case : (P : Bool → Type 0) (q : Bool) → (T q → P true) → (T (not q) → P false) → P q
@@ -98,3 +103,10 @@ andThen-is (some a) f b e = (a, refl, e)
 -- what stands at a place, and behind it
 pub at-cons : (l : List ℕ) (i : ℕ) → i < length l → drop i l ≡ getD l i 0 ∷ drop (i + 1) l
 at-cons l i h = rw (add-one i, drop-cons l i 0 h)
+
+-- words put one list after the other
+pub sets-append : (d : List ℕ) (at : ℕ) (us vs : List ℕ) → sets d at (us ++ vs) ≡ sets (sets d at us) (at + length us) vs
+sets-append d at [] vs = rw add-zero
+sets-append d at (u ∷ us) vs =
+    let e : at + suc (length us) ≡ suc at + length us = omega arith in
+    rw e (sets-append (set d at u) (suc at) us vs)

@@ -17,7 +17,7 @@ use Rattle.documents.specs.Tables.{tableOf, Fits, termIn, nodes, depth}
 use Rattle.documents.specs.Rules.{metas, simple, isSymbol, closed, contains, crsRule}
 use Rattle.documents.specs.Translation.{symbolTable}
 use Rattle.documents.specs.Numbers.{Answer, answered, refused, unless, orRefuse, with, tableIn, subjectIn, rule, ruleIn}
-use Rattle.documents.proofs.Lists.{never, on, of-and}
+use Rattle.documents.proofs.Lists.{never, on, of-and, both-true}
 use Rattle.documents.proofs.Tables.{termIn-tableOf, tableOf-termIn, length-tableOf}
 
 -- ---- Chains of tests
@@ -108,10 +108,6 @@ conditions l r h =
 
 pub crs-of-conditions : (l r : Term) → Conditions l r → T (crsRule l r)
 crs-of-conditions l r c = rw (c .known, c .root, c .leftClosed, c .rightClosed, c .leftSimple) tt
-
-both-true : (a b : Bool) → a && b ≡ true → (a ≡ true) × (b ≡ true)
-both-true true b e = (refl, e)
-both-true false b e = never (cc)
 
 met : (l r l′ r′ : Term) → l′ ≡ l → r′ ≡ r → contains (metas r′) (metas l′) ≡ true → isSymbol l′ ≡ true → closed l′ ≡ true → closed r′ ≡ true → simple l′ ≡ true
     → Conditions l r

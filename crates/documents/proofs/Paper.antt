@@ -9,7 +9,7 @@ use borrow.Author.Tests.{lt-ltb}
 use Rattle.documents.specs.Lists.{every, member}
 use Rattle.documents.specs.Terms.{Sort, Tm, Var, Sym, Meta, Abst, Nil, Cons, rename}
 use Rattle.documents.specs.Rules.{fv}
-use Rattle.documents.specs.Machine.{isVar, isSym, isMeta, isAbst, isNil, isCons, equal, renaming, equalUnder}
+use Rattle.documents.specs.Machine.{isVar, isSym, isMeta, isAbst, isCons, equal, renaming, equalUnder}
 use Rattle.documents.proofs.Lists.{and-true, every-append}
 use Rattle.documents.proofs.Substitution.{renameUnders}
 

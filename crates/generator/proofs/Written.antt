@@ -1,25 +1,19 @@
 -- Writing goes on: what is still to be written from the place where it stands makes the table that was asked for.
 use mathlib.Core.Path.{_≡_, refl, sym, ap, _∙_}
 use Prim.Native.Nat.{ℕ, zero, suc, _+_, _-_, _≤_, _<_}
-use native.Mathlib.Nat.{add-zero}
 use native.Mathlib.Numerals.{add-one}
 use native.Mathlib.Omega.{arith}
 use mathlib.Core.List.{List, [], _∷_, _++_, append-assoc}
-use lib.ListN.{length, take, drop, getD, set, length-append}
+use lib.ListN.{length, take, drop, getD, length-append}
 use lib.Seq.{sets, length-sets, drop-cons}
 use Rattle.documents.specs.Instructions.{End, _▸_, Program, words}
 use Rattle.documents.specs.Translation.{_⧺_}
+use Rattle.documents.proofs.Lists.{sets-append}
 use Rattle.generator.specs.Written.{Fits, Wrote}
 
 pub words-⧺ : (c d : Program) → words (c ⧺ d) ≡ words c ++ words d
 words-⧺ End d = refl
 words-⧺ (i ▸ c) d = ap (λ (l : List ℕ). words i ++ l) (words-⧺ c d) ∙ sym (append-assoc (words i) (words c) (words d))
-
-pub sets-append : (d : List ℕ) (at : ℕ) (us vs : List ℕ) → sets d at (us ++ vs) ≡ sets (sets d at us) (at + length us) vs
-sets-append d at [] vs = rw add-zero
-sets-append d at (u ∷ us) vs =
-    let e : at + suc (length us) ≡ suc at + length us = omega arith in
-    rw e (sets-append (set d at u) (suc at) us vs)
 
 -- all the words were asked for from `at` on in the old table; rest is still to be written from `place` on in the new one
 pub record Writing (old : List ℕ) (at : ℕ) (all : List ℕ) (new : List ℕ) (place : ℕ) (rest : List ℕ) : Type 0 where

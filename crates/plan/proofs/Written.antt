@@ -1,20 +1,14 @@
 -- Bytes that are written one after the other, from a place on.
 use mathlib.Core.Path.{_≡_, refl, sym, ap, _∙_}
-use Prim.Native.Nat.{ℕ, suc, _+_, _-_, _*_, _/_, _%_, _≤_, _<_}
-use native.Mathlib.Nat.{add-zero}
+use Prim.Native.Nat.{ℕ, _+_, _-_, _*_, _/_, _%_, _≤_, _<_}
 use native.Mathlib.Numerals.{add-one}
 use native.Mathlib.Omega.{arith}
 use mathlib.Core.List.{List, [], _∷_, _++_}
 use lib.ListN.{length, take, drop, getD, set, length-set, length-append, length-take, drop-of-length-le}
 use lib.Seq.{sets, length-sets, drop-cons, length-take-le}
+use Rattle.documents.proofs.Lists.{sets-append}
 use Rattle.plan.specs.Line.{decimal, behind, lineOf, Wrote, Counts}
 use Rattle.plan.proofs.Digits.{decimal-one, decimal-more, ten-digits}
-
-sets-append : (d : List ℕ) (at : ℕ) (us vs : List ℕ) → sets d at (us ++ vs) ≡ sets (sets d at us) (at + length us) vs
-sets-append d at [] vs = rw add-zero
-sets-append d at (u ∷ us) vs =
-    let e : at + suc (length us) ≡ suc at + length us = omega arith in
-    rw e (sets-append (set d at u) (suc at) us vs)
 
 pub wrote-length : {old new : List ℕ} {at next : ℕ} {us : List ℕ} → Wrote old new at next us → length new ≡ length old
 wrote-length {old} {at = at} {us = us} w = ap (λ (l : List ℕ). length l) (w .line) ∙ length-sets old at us

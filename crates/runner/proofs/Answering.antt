@@ -1,5 +1,5 @@
 -- What a run comes to: 01's order of refusals, one law for each way out.
-use mathlib.Core.Path.{_≡_, refl, sym, ap, _∙_}
+use mathlib.Core.Path.{_≡_, sym, ap, _∙_}
 use Prim.Native.Nat.{ℕ, _+_, _*_, _/_, _≤_, _<_, min}
 use native.Mathlib.Omega.{arith}
 use mathlib.Core.Bool.{Bool, true, false}
@@ -29,6 +29,7 @@ use Rattle.safety.proofs.NeverStuck.{passing-obeys}
 use Rattle.checker.specs.declared.Checked.{Checked}
 use Rattle.checker.specs.declared.Checked.the-variants as checked
 use Rattle.checker.specs.Matched.{verdict}
+use Rattle.checker.proofs.Matching.{not-passed}
 use Rattle.trees.specs.Trees.{Tree, nodesOf, depthOf, reachOf, wordsOf}
 use Rattle.trees.proofs.Made.{Told}
 use Rattle.runner.specs.declared.Ran.the-variants as ran
@@ -50,10 +51,6 @@ module _ (code subject work result : List ℕ) where
         → given (ran.Refused DoesNotPass) (zeros work) result ≡ runCall code subject work result
     unfolding runCall runs codeIn
     run-unchecked e f = rw (le-leb 8192 (length work) l, not-passed (passes code) (sym f ∙ e))
-      where
-        not-passed : {w : Refusal} (q : Bool) → checked.Refused w ≡ verdict q → q ≡ false
-        not-passed true e = never (cc)
-        not-passed false e = refl
 
     module _ (p : passes code ≡ true) where
       pub run-refused : {r : Sized} {w : Refusal} → r ≡ sized (subjectIn subject) → r ≡ sized.Refused w

@@ -13,7 +13,7 @@ use Rattle.documents.specs.Terms.{Sort, Tm, Var, Sym, Meta, Abst, Nil, Cons, Te
 use Rattle.documents.specs.Tables.{nodes}
 use Rattle.documents.specs.Instructions.{pairsIn}
 use Rattle.documents.specs.Machine.{isVar, equal, renaming, equalUnder}
-use Rattle.documents.proofs.Lists.{never}
+use Rattle.documents.proofs.Lists.{never, both-true}
 use Rattle.documents.proofs.Substitution.{rename-ext, rename-id}
 use Rattle.documents.proofs.Paper.{equal-is}
 use Rattle.tables.specs.Parts.{terms, front, Begins, wordCount}
@@ -21,11 +21,6 @@ use Rattle.tables.specs.declared.walk.Walked.the-variants.{Words, Stoppe
 use Rattle.tables.specs.Compared.{sameVariable, compared}
 use Rattle.tables.proofs.Parts.{join, headed, Shape, Step, step, two, front-term, from, from-drop}
 use Rattle.tables.proofs.Walks.{at-variable, at-abstraction, Walk, walk-body, ended, Walking, walking-from, walking-on, walking-variable, walking-abstraction, walking-ended, walked-words, walked-stopped, is-words, is-stopped}
-
-both : (p q : Bool) → p && q ≡ true → (p ≡ true) × (q ≡ true)
-both true true e = (refl, refl)
-both true false e = never (cc)
-both false q e = never (cc)
 
 module _ (ps : List (ℕ × ℕ)) (D : ℕ) where
   -- ---- Terms that agree, and terms that do not
@@ -36,12 +31,12 @@ module _ (ps : List (ℕ × ℕ)) (D : ℕ) where
   equal-nodes j (Var x) (Meta z us) e = never (cc)
   equal-nodes j (Var x) (Abst u) e = never (cc)
   equal-nodes j (Sym s ts) (Var y) e = never (cc)
-  equal-nodes j (Sym s ts) (Sym r us) e = ap suc (equal-nodes j ts us (both (eqb s r) _ e .1))
+  equal-nodes j (Sym s ts) (Sym r us) e = ap suc (equal-nodes j ts us (both-true (eqb s r) _ e .1))
   equal-nodes j (Sym s ts) (Meta z us) e = never (cc)
   equal-nodes j (Sym s ts) (Abst u) e = never (cc)
   equal-nodes j (Meta z ts) (Var y) e = never (cc)
   equal-nodes j (Meta z ts) (Sym r us) e = never (cc)
-  equal-nodes j (Meta z ts) (Meta r us) e = ap suc (equal-nodes j ts us (both (eqb z r) _ e .1))
+  equal-nodes j (Meta z ts) (Meta r us) e = ap suc (equal-nodes j ts us (both-true (eqb z r) _ e .1))
   equal-nodes j (Meta z ts) (Abst u) e = never (cc)
   equal-nodes j (Abst t) (Var y) e = never (cc)
   equal-nodes j (Abst t) (Sym r us) e = never (cc)
@@ -51,7 +46,7 @@ module _ (ps : List (ℕ × ℕ)) (D : ℕ) where
   equal-nodes j Nil (Cons u us) e = never (cc)
   equal-nodes j (Cons t ts) Nil e = never (cc)
   equal-nodes j (Cons t ts) (Cons u us) e =
-      let p = both (equalUnder ps D j t u) _ e in
+      let p = both-true (equalUnder ps D j t u) _ e in
       ap₂ _+_ (equal-nodes j t u (p .0)) (equal-nodes j ts us (p .1))
 
   equal-join : (j : ℕ) (ts us xs ys : Terms) → len ts ≡ len us
@@ -124,7 +119,7 @@ module _ (ps : List (ℕ × ℕ)) (D : ℕ) where
 
     same-is-variable : sameVariable ps D j (getD t a 0) (getD u a 0) ≡ true → getD u a 0 < 65536
     unfolding sameVariable
-    same-is-variable e = ltb-true (getD u a 0) 65536 (both (ltb (getD u a 0) 65536) _ e .0)
+    same-is-variable e = ltb-true (getD u a 0) 65536 (both-true (ltb (getD u a 0) 65536) _ e .0)
 
     same-variable : getD t a 0 < 65536 → sameVariable ps D j (getD t a 0) (getD u a 0) ≡ true
         → (getD u a 0 < 65536)

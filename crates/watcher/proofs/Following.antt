@@ -3,7 +3,7 @@
 use mathlib.Core.Path.{_≡_, refl, sym, ap, _∙_}
 use Prim.Native.Nat.{ℕ, zero, suc, _-_, _/_, _≤_, _<_}
 use native.Mathlib.Omega.{arith}
-use mathlib.Core.Bool.{Bool, true, false, _&&_}
+use mathlib.Core.Bool.{true, false, _&&_}
 use mathlib.Core.Option.{some}
 use mathlib.Core.List.{List, [], _∷_}
 use lib.Dec.{leb}
@@ -34,6 +34,7 @@ use Rattle.safety.proofs.Counts.{total, length-laid}
 use Rattle.checker.specs.declared.Checked.{Checked}
 use Rattle.checker.specs.declared.Checked.the-variants as checked
 use Rattle.checker.specs.Matched.{verdict}
+use Rattle.checker.proofs.Matching.{not-passed}
 use Rattle.matcher.specs.declared.Stepped.{Stepped}
 use Rattle.matcher.specs.declared.Stepped.the-variants as stepped
 use Rattle.matcher.specs.Midway.{Any, inLine, entered, Midway, stateOf, entriesAfter, madeAfter, Moves, Fails, Steps}
@@ -63,10 +64,6 @@ module _ (code subject : List ℕ) (i : ℕ) where
   pub watch-unchecked : {r : Checked} {w : Refusal} → r ≡ verdict (passes code) → r ≡ checked.Refused w → watched.Refused DoesNotPass ≡ asWatched (watches code subject i)
   unfolding watches codeIn
   watch-unchecked e f = rw (not-passed (passes code) (sym f ∙ e))
-    where
-      not-passed : {w : Refusal} (q : Bool) → checked.Refused w ≡ verdict q → q ≡ false
-      not-passed true e = never (cc)
-      not-passed false e = refl
 
   module _ (p : passes code ≡ true) where
     pub watch-refused : {r : Sized} {w : Refusal} → r ≡ sized (subjectIn subject) → r ≡ sized.Refused w → watched.Refused w ≡ asWatched (watches code subject i)
