@@ -3,7 +3,6 @@ use documents::Refusal;
 use documents::op::ADBMAL;
 use documents::op::CELL;
 use documents::op::LAMBDA;
-use documents::op::PUSHI;
 use documents::op::PUSHIMM;
 use documents::op::PUSHVAR;
 use indices::all_below;

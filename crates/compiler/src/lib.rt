@@ -16,7 +16,6 @@ use symbols::all_found;
 use symbols::enter_all;
 use tables::accept::Sized;
 ghost use mathlib.Core.Path.{_≡_};
-ghost use lib.ListN.{length};
 ghost use Rattle.documents.specs.Calls.{atFront, compileCall};
 ghost use Rattle.documents.specs.Translation.{compile};
 ghost use Rattle.documents.specs.Instructions.{words};

@@ -4,7 +4,7 @@ use Prim.Native.Nat.{ℕ, suc, _+_, _<_, max}
 use native.Mathlib.Nat.{add-zero}
 use native.Mathlib.Numerals.{add-one}
 use native.Mathlib.Omega.{arith}
-use mathlib.Core.Bool.{Bool, true, false, not, _&&_, _||_, cond, or-assoc}
+use mathlib.Core.Bool.{Bool, true, false, not, _&&_, _||_, cond, and-assoc, or-assoc}
 use mathlib.Core.Option.{Option, none, some}
 use mathlib.Core.List.{List, [], _∷_, _++_}
 use lib.Dec.{T, eqb, leb}
@@ -55,17 +55,9 @@ branch {A} {P} w k {x} {y} {r} e f g = go (eqb w k) refl e
     go true q e = f (eqb-true w k q) e
     go false q e = g e
 
-pub and-assoc : (a b c : Bool) → a && (b && c) ≡ (a && b) && c
-and-assoc true b c = refl
-and-assoc false b c = refl
-
-pub and-true : (a : Bool) → a && true ≡ a
-and-true true = refl
-and-true false = refl
-
 pub every-append : {A : Type 0} (p : A → Bool) (l m : List A) → every p (l ++ m) ≡ every p l && every p m
 every-append p [] m = refl
-every-append p (a ∷ l) m = rw (every-append p l m) (and-assoc (p a) (every p l) (every p m))
+every-append p (a ∷ l) m = rw (every-append p l m) (sym (and-assoc (p a) (every p l) (every p m)))
 
 pub member-append : (l m : List ℕ) (y : ℕ) → member (l ++ m) y ≡ member l y || member m y
 member-append [] m y = refl

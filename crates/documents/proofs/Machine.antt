@@ -41,28 +41,29 @@ module _ (cs : List Current) (env : List Entry) (off : ℕ) (nst : List ℕ) whe
       → cell f k (state cs env (onto many ts st) off nst) ≡ done (state cs env (f ts ∷ st) off nst)
   cell-onto f ts k e st = rw (← e) (split-all ts st (λ us rest. done (state cs env (f us ∷ rest) off nst)))
 
-module _ (run : ℕ → Option Action) (D : ℕ) (cs : List Current) (env : List Entry) (off : ℕ) (nst : List ℕ) (φ : ℕ → Term) where
-  -- the variable y of the entry gives the term φ y, lifted past the abstractions of the entry that are above it
-  abbrev pub Gives : ℕ → Type 0
-  Gives y = (n : ℕ) (st : List Term) → pushFree (run y) D n (n + y) (state cs env st off nst) ≡ done (state cs env (rename (λ x. n + x) (φ y) ∷ st) off nst)
-
-  -- a variable x under n abstractions of the entry: bound by one of them, or y outside of them
-  abbrev View : ℕ → ℕ → Type 0
+-- a variable x under n abstractions of an entry: bound by one of them, or y outside of them, of which P is known
+module _ (φ : ℕ → Term) (P : ℕ → Type 0) where
+  abbrev pub View : ℕ → ℕ → Type 0
   View n x =
       ((x < n) × (substUnders n φ x ≡ Var x))
-      ⊎ ((y : ℕ) × (x ≡ n + y) × (substUnders n φ x ≡ rename (λ z. n + z) (φ y)) × Gives y)
+      ⊎ ((y : ℕ) × (x ≡ n + y) × (substUnders n φ x ≡ rename (λ z. n + z) (φ y)) × P y)
 
   view-suc : (n x : ℕ) → View n x → View (suc n) (suc x)
   view-suc n x (inl h) = inl (omega (arith, h .0), ap lift (h .1))
   view-suc n x (inr h) =
       inr (h .0, omega (arith, h .1), ap lift (h .2) ∙ rename-rename suc _ (φ (h .0)) ∙ rename-ext _ _ (φ (h .0)) (λ z. omega arith), h .3)
 
-  view : (n x : ℕ) → unders n Gives x → View n x
+  pub view : (n x : ℕ) → unders n P x → View n x
   view zero x g = inr (x, omega arith, sym (rename-ext _ _ (φ x) (λ z. omega arith) ∙ rename-id (φ x)), g)
   view (suc n) zero g = inl (omega arith, refl)
   view (suc n) (suc x) g = view-suc n x (view n x g)
 
-  pushMet-is : (n x : ℕ) (st : List Term) → View n x
+module _ (run : ℕ → Option Action) (D : ℕ) (cs : List Current) (env : List Entry) (off : ℕ) (nst : List ℕ) (φ : ℕ → Term) where
+  -- the variable y of the entry gives the term φ y, lifted past the abstractions of the entry that are above it
+  abbrev pub Gives : ℕ → Type 0
+  Gives y = (n : ℕ) (st : List Term) → pushFree (run y) D n (n + y) (state cs env st off nst) ≡ done (state cs env (rename (λ x. n + x) (φ y) ∷ st) off nst)
+
+  pushMet-is : (n x : ℕ) (st : List Term) → View φ Gives n x
       → pushMet (ltb x n) run D n x (state cs env st off nst) ≡ done (state cs env (substUnders n φ x ∷ st) off nst)
   pushMet-is n x st (inl h) = rw (lt-ltb x n (h .0), h .1)
   pushMet-is n x st (inr h) =
@@ -73,7 +74,7 @@ module _ (run : ℕ → Option Action) (D : ℕ) (cs : List Current) (env : List
   -- push leaves the entry under the substitution φ, and all else as it was
   pub push-is : {s : Sort} (n : ℕ) (t : Tm s) (st : List Term) → AllFree (unders n Gives) t
       → push run D n t (state cs env st off nst) ≡ done (state cs env (onto s (subst (substUnders n φ) t) st) off nst)
-  push-is n (Var x) st h = pushMet-is n x st (view n x h)
+  push-is n (Var x) st h = pushMet-is n x st (view φ Gives n x h)
   push-is n (Sym s ts) st h =
       ap (λ r. r >>= cell (Sym s) (len ts)) (push-is n ts st h) ∙ cell-onto cs env off nst (Sym s) _ (len ts) (len-subst _ ts) st
   push-is n (Meta z ts) st h =

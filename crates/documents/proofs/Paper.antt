@@ -2,7 +2,7 @@
 use mathlib.Core.Path.{_≡_, refl, sym, ap, ap₂, _∙_}
 use Prim.Native.Nat.{ℕ, zero, suc, _+_, _-_, _<_}
 use native.Mathlib.Omega.{arith}
-use mathlib.Core.Bool.{Bool, true, false, not, _&&_, _||_, cond}
+use mathlib.Core.Bool.{Bool, true, false, not, _&&_, _||_, cond, and-true}
 use mathlib.Core.List.{List, [], _∷_}
 use lib.Dec.{ltb, leb·suc-suc, leb·suc-zero}
 use borrow.Author.Tests.{lt-ltb}
@@ -10,7 +10,7 @@ use Rattle.documents.specs.Lists.{every, member}
 use Rattle.documents.specs.Terms.{Sort, Tm, Var, Sym, Meta, Abst, Nil, Cons, rename}
 use Rattle.documents.specs.Rules.{fv}
 use Rattle.documents.specs.Machine.{isVar, isSym, isMeta, isAbst, isCons, equal, renaming, equalUnder}
-use Rattle.documents.proofs.Lists.{and-true, every-append}
+use Rattle.documents.proofs.Lists.{every-append}
 use Rattle.documents.proofs.Substitution.{renameUnders}
 
 -- ---- CHECK

@@ -4,7 +4,7 @@
 use tables::node::ABSTRACTION;
 use tables::node::FIRST_METAVARIABLE;
 ghost use mathlib.Core.Path.{_≡_};
-ghost use Prim.Native.Nat.{_+_, _≤_, _<_};
+ghost use Prim.Native.Nat.{_≤_, _<_};
 ghost use lib.ListN.{length};
 ghost use Rattle.documents.specs.Lists.{every, member};
 ghost use Rattle.documents.specs.Rules.{metas, contains};

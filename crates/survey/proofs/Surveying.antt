@@ -5,7 +5,7 @@ use Prim.Native.Nat.{ℕ, zero, suc, _+_, _-_, _*_, _/_, _%_, _≤_, _<_, max}
 use native.Mathlib.Nat.{add-zero}
 use native.Mathlib.Numerals.{add-one}
 use native.Mathlib.Omega.{arith}
-use mathlib.Core.Bool.{Bool, true, false, _&&_, cond, and-false}
+use mathlib.Core.Bool.{Bool, true, false, _&&_, cond, and-false, and-assoc, and-true}
 use mathlib.Core.List.{List, [], _∷_, _++_, append-assoc, append-nil}
 use lib.Dec.{eqb, leb, ltb, leb·suc-suc}
 use lib.ListN.{length, take, drop, getD, set, replicate, length-set}
@@ -17,14 +17,15 @@ use Rattle.documents.specs.Terms.{Nil, Cons, Term, Terms}
 use Rattle.documents.specs.Tables.{termsIn, depth}
 use Rattle.documents.specs.Rules.{metas}
 use Rattle.documents.specs.Numbers.{tableIn, subjectIn}
-use Rattle.documents.proofs.Lists.{never, on, T-of, of-and, and-assoc, and-true}
+use Rattle.documents.proofs.Lists.{never, on, T-of, of-and, leb-max}
 use Rattle.tables.specs.declared.accept.Sized.the-variants.{Nodes, Refused}
 use Rattle.tables.specs.Answers.{sized, isGood, inLayout}
 use Rattle.tables.specs.Parts.{held, firstTerms, terms, front, Begins}
 use Rattle.tables.proofs.Parts.{only, headed, Shape, Opened, opened, front-term, begins-less, no-terms}
 use Rattle.tables.proofs.Walks.{Walk, walk-from, walk-on}
 use Rattle.tables.proofs.Sides.{metas-front, metas-here, metas-behind}
-use Rattle.tables.proofs.Accepted.{layout-variable, layout-applied, layout-abstraction, layout-other, holds, good-start, good-node, good-outside, good-more, good-odd, good-end, listed, listed-set, depth-headed, leb-max, first-arguments, drop-arguments, depth-positive, good-begins, accept-long, accept-bad, accept-deep, accept-good, accepted-table, subject-refused, subject-metavariable, subject-plain}
+use Rattle.documents.proofs.Nodes.{depth-positive}
+use Rattle.tables.proofs.Accepted.{layout-variable, layout-applied, layout-abstraction, layout-other, holds, good-start, good-node, good-outside, good-more, good-odd, good-end, listed, listed-set, depth-headed, first-arguments, drop-arguments, good-begins, accept-long, accept-bad, accept-deep, accept-good, accepted-table, subject-refused, subject-metavariable, subject-plain}
 use Rattle.documents.specs.declared.Refusal.{Refusal}
 use Rattle.survey.proofs.Places.{length-places}
 use Rattle.survey.specs.Places.{place, placesOf, Surveyed, Unfit, goesIn, wholeOf, below, levels}
@@ -150,7 +151,7 @@ module _ {kind s c : ℕ} {us vs : List Term} (o : Opened kind s c us vs) (n d :
         e,
         leb-max (x + suc d) (y + d) 65,
       )
-      (sym (and-assoc (leb (x + suc d) 65) (leb (y + d) 65) (shallowAt ws (drop n (o .rest)))))
+      (and-assoc (leb (x + suc d) 65) (leb (y + d) 65) (shallowAt ws (drop n (o .rest))))
 
 -- ---- The tests of the code
 

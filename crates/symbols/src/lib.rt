@@ -28,7 +28,7 @@ pub const ABOVE: usize = 2;
 pub const ARGUMENTS: usize = 3;
 
 // The words of sixteen rows.
-pub const TABLE_WORDS: usize = 176;
+pub const TABLE_WORDS: usize = MOST_METAVARIABLES * ROW_WORDS;
 
 // A metavariable's location.
 pub enum Found {

@@ -20,8 +20,8 @@ use Rattle.documents.specs.declared.Refusal.{Refusal}
 use Rattle.documents.specs.Rules.{metas}
 use Rattle.documents.specs.Numbers.{Answer, answered, refused, unless, orRefuse, with, tableIn, subjectIn}
 use Rattle.documents.proofs.Lists.{never, on, T-of, of-and, andThen-is}
-pub use Rattle.documents.proofs.Lists.{leb-max}
-pub use Rattle.documents.proofs.Nodes.{depth-positive}
+use Rattle.documents.proofs.Lists.{leb-max}
+use Rattle.documents.proofs.Nodes.{depth-positive}
 use Rattle.documents.proofs.Tables.{before, tableOf-termIn, length-tableOf, termsIn-tableOf, termsIn-tablesOf, subterm-place}
 use Rattle.documents.proofs.Numbers.{tableIn-held, subjectIn-held}
 use Rattle.tables.specs.Parts.{held, firstTerms, terms, front, Begins, wordCount}

@@ -13,7 +13,8 @@ use Rattle.documents.proofs.Substitution.{substUnders}
 use Rattle.documents.proofs.FreeVariables.{unders, AllFree, free-all}
 use Rattle.trees.specs.Trees.{Tree, Cell, Block, Bound, Whole, Pushed, Leaf, More, orOne, Counted, spreadDepth, greatest, depthOf}
 use Rattle.trees.proofs.Related.{AllRelated, BothRelated, found-related}
-use Rattle.trees.proofs.Values.{listed, depthAt, orPast, instead, value, View, view}
+use Rattle.documents.proofs.Machine.{View, view}
+use Rattle.trees.proofs.Values.{listed, depthAt, orPast, instead, value}
 
 pub depth-rename : {s : Sort} (f : ℕ → ℕ) (t : Tm s) → depth (rename f t) ≡ depth t
 depth-rename f (Var x) = refl

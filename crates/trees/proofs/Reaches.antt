@@ -4,7 +4,7 @@ use mathlib.Core.Path.{_≡_, refl, sym, ap, ap₂, _∙_}
 use mathlib.Core.Logic.{_⊎_, inl, inr}
 use Prim.Native.Nat.{ℕ, zero, suc, _+_, _-_, _≤_, _<_, max}
 use native.Mathlib.Omega.{arith}
-use mathlib.Core.Bool.{Bool, true, false, _&&_, cond}
+use mathlib.Core.Bool.{Bool, true, false, _&&_, cond, and-true}
 use mathlib.Core.Option.{Option, none, some}
 use mathlib.Core.List.{List, [], _∷_}
 use lib.Dec.{T, leb, ltb, leb·zero, leb·suc-suc}
@@ -14,13 +14,14 @@ use Rattle.documents.specs.Limits.{dShift}
 use Rattle.documents.specs.Lists.{every, assoc, pairlists}
 use Rattle.documents.specs.Terms.{Sort, one, many, Tm, Var, Sym, Meta, Abst, Nil, Cons, Term, Terms, len, rename, subst}
 use Rattle.documents.specs.Tables.{Fits, depth, indices}
-use Rattle.documents.proofs.Lists.{and-true, leb-max, every-append}
+use Rattle.documents.proofs.Lists.{leb-max, every-append}
 use Rattle.documents.proofs.Substitution.{renameUnders, substUnders}
 use Rattle.documents.proofs.FreeVariables.{unders, AllFree, AllFree-map}
 use Rattle.kahrs.proofs.RightSide.{covered}
 use Rattle.trees.specs.Trees.{Tree, Cell, Block, Bound, Whole, Pushed, Leaf, More, Counted, greatest, further, orMoved, spreadReach, reachOf}
 use Rattle.trees.proofs.Related.{AllRelated, BothRelated, found-related}
-use Rattle.trees.proofs.Values.{listed, length-listed, depthAt, orPast, instead, past-of-none, value, len-value, Good, View, view}
+use Rattle.documents.proofs.Machine.{View, view}
+use Rattle.trees.proofs.Values.{listed, length-listed, depthAt, orPast, instead, past-of-none, value, len-value, Good}
 
 -- one more than the highest index, as written, of the variables that lie outside of n abstractions above t, 0 if there is none
 abbrev pub farthest : {s : Sort} → ℕ → Tm s → ℕ

@@ -12,6 +12,7 @@ use Rattle.documents.specs.Terms.{Sort, one, many, Tm, Var, Sym, Meta, Abst, Ni
 use Rattle.documents.specs.Tables.{nodeWord, nodes, depth}
 use Rattle.documents.proofs.Lists.{case}
 use Rattle.documents.proofs.Tables.{length-tableOf}
+use Rattle.documents.proofs.Nodes.{depth-positive}
 use Rattle.trees.specs.Trees.{Tree, Cell, Block, Bound, Whole, Pushed, Leaf, More, orOne, spreadNodes, sum, Counted, nodesOf, spreadDepth, greatest, depthOf, Writer, Written, orMovedWords, spreadWords, inOrder, wordsOf}
 use Rattle.trees.proofs.Related.{AllRelated, BothRelated, found-related}
 
@@ -73,12 +74,6 @@ module _ (ent : ℕ → Term) where
 
 abbrev pub Levels : ℕ → ℕ → Type 0
 Levels d n = (1 ≤ d) × (d ≤ n)
-
-pub depth-positive : (t : Term) → 1 ≤ depth t
-depth-positive (Var x) = omega arith
-depth-positive (Sym s ts) = omega arith
-depth-positive (Meta z ts) = omega arith
-depth-positive (Abst t) = omega arith
 
 pub depth-nodes : {s : Sort} (t : Tm s) → depth t ≤ nodes t
 depth-nodes (Var x) = omega arith

@@ -1,7 +1,6 @@
 -- The term that a tree makes under l open LAMBDAs, as it is before OFFSET and NSTACK rename it, and what the check found of the tree.
-use mathlib.Core.Path.{_≡_, refl, sym, ap, _∙_}
-use mathlib.Core.Logic.{_⊎_, inl, inr}
-use Prim.Native.Nat.{ℕ, zero, suc, _+_, _-_, _≤_, _<_}
+use mathlib.Core.Path.{_≡_, refl, ap}
+use Prim.Native.Nat.{ℕ, suc, _+_, _-_, _≤_, _<_}
 use native.Mathlib.Omega.{arith}
 use mathlib.Core.Bool.{Bool, true, not, _||_, cond}
 use mathlib.Core.Option.{Option, none, some}
@@ -10,10 +9,10 @@ use lib.Dec.{T, eqb, leb, leb→le}
 use lib.ListN.{length}
 use Rattle.documents.specs.Limits.{dShift}
 use Rattle.documents.specs.Lists.{member, assoc, pairlists}
-use Rattle.documents.specs.Terms.{Sort, many, Tm, Var, Sym, Abst, Nil, Cons, Term, Terms, len, rename, lift, subst}
+use Rattle.documents.specs.Terms.{Sort, many, Tm, Var, Sym, Abst, Nil, Cons, Term, Terms, len, subst}
 use Rattle.documents.proofs.Lists.{never, case}
-use Rattle.documents.proofs.Substitution.{rename-ext, rename-rename, rename-id, substUnders, select}
-use Rattle.documents.proofs.FreeVariables.{unders, AllFree}
+use Rattle.documents.proofs.Substitution.{select}
+use Rattle.documents.proofs.FreeVariables.{AllFree}
 use Rattle.kahrs.proofs.RightSide.{place, covered}
 use Rattle.trees.specs.Trees.{Tree, Cell, Block, Bound, Whole, Pushed, Leaf, More, count}
 
@@ -79,21 +78,3 @@ module _ (ent : ℕ → Term) where
       (D + depthAt l D ≡ l + dShift) × (length ks ≡ count ps) × AllFree (λ y. T (covered ks (depthAt l D) y)) (ent e) × Good true l ps
   Good inside l Leaf = Unit {0}
   Good inside l (More p ps) = Good inside l p × Good inside l ps
-
--- ---- A variable x under n abstractions of an entry: bound by one of them, or y outside of them
-
-module _ (φ : ℕ → Term) (P : ℕ → Type 0) where
-  abbrev pub View : ℕ → ℕ → Type 0
-  View n x =
-      ((x < n) × (substUnders n φ x ≡ Var x))
-      ⊎ ((y : ℕ) × (x ≡ n + y) × (substUnders n φ x ≡ rename (λ z. n + z) (φ y)) × P y)
-
-  view-suc : (n x : ℕ) → View n x → View (suc n) (suc x)
-  view-suc n x (inl h) = inl (omega (arith, h .0), ap lift (h .1))
-  view-suc n x (inr h) =
-      inr (h .0, omega (arith, h .1), ap lift (h .2) ∙ rename-rename suc _ (φ (h .0)) ∙ rename-ext _ _ (φ (h .0)) (λ z. omega arith), h .3)
-
-  pub view : (n x : ℕ) → unders n P x → View n x
-  view zero x g = inr (x, omega arith, sym (rename-ext _ _ (φ x) (λ z. omega arith) ∙ rename-id (φ x)), g)
-  view (suc n) zero g = inl (omega arith, refl)
-  view (suc n) (suc x) g = view-suc n x (view n x g)

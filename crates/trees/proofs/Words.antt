@@ -19,7 +19,8 @@ use Rattle.documents.proofs.FreeVariables.{unders, AllFree, AllFree-map}
 use Rattle.kahrs.proofs.RightSide.{offsetOf, offset-raise, offset-past, covered}
 use Rattle.trees.specs.Trees.{Tree, Cell, Block, Bound, Whole, Pushed, Leaf, More, Writer, Written, orMovedWords, spreadWords, inOrder, wordsOf}
 use Rattle.trees.proofs.Related.{AllRelated, BothRelated, found-related}
-use Rattle.trees.proofs.Values.{listed, length-listed, depthAt, orPast, instead, past-of-none, value, len-value, Good, View, view}
+use Rattle.documents.proofs.Machine.{View, view}
+use Rattle.trees.proofs.Values.{listed, length-listed, depthAt, orPast, instead, past-of-none, value, len-value, Good}
 
 -- ---- An entry's walk
 

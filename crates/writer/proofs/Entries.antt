@@ -14,9 +14,10 @@ use Rattle.documents.specs.Terms.{Term, one, many}
 use Rattle.documents.specs.Tables.{tableOf, Fits, nodes, depth}
 use Rattle.documents.proofs.Lists.{on, T-of, of-and}
 use Rattle.documents.proofs.Tables.{length-tableOf}
+use Rattle.documents.proofs.Nodes.{depth-positive}
 use Rattle.instructions.specs.Bodies.{keyPlace}
 use Rattle.trees.specs.Trees.{Tree, Cell, Block, Bound, Whole, Pushed, Leaf, More, count, orOne, depthOf, Writer, orMovedWords, spreadWords, wordsOf}
-use Rattle.trees.proofs.Sizes.{depth-positive, depth-nodes}
+use Rattle.trees.proofs.Sizes.{depth-nodes}
 use Rattle.survey.specs.Places.{place, placesOf}
 use Rattle.survey.proofs.Places.{length-places}
 use Rattle.links.specs.Nodewise.{isFree, total, insideOf, nodeDepth, nodeWords, seenAt, nodeSeen}
