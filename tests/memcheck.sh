@@ -1,7 +1,7 @@
 #!/usr/bin/env bash
 # memcheck.sh [SHARE]: valgrind's memcheck over examples/apply.c, on every rule file, and over the calls of the comparison tests (linked/), one
 # of SHARE seeds, 100 if none is said: no error, no leak. On x86-64 only, where valgrind can run the library; elsewhere it is
-# memcheck_vm.sh. Needs gcc, valgrind and target/staticlib/libreedbiscuit.a (rt staticlib reedbiscuit).
+# memcheck_vm.sh. Needs gcc, valgrind, the kit and target/staticlib/libreedbiscuit.a (rt staticlib reedbiscuit).
 set -euo pipefail
 cd "$(dirname "$0")/.."
 
@@ -15,13 +15,18 @@ memcheck=(valgrind --leak-check=full --show-leak-kinds=all --errors-for-leak-kin
 # compile NAME SOURCE
 compile() { gcc -g -O2 -std=c99 -I include "$2" "$archive" -o "$made/$1"; }
 
+# fail WHAT: says it below the logs; a valgrind that did not start has left none
+fail() {
+    cat "$made"/*.log >&2 || true
+    echo "memcheck: $1" >&2
+    exit 1
+}
+
 # no_error WHAT: of all runs since it was asked last; says how many these were
 no_error() {
     local logs=("$made"/*.log)
     if ! [ -e "${logs[0]}" ] || [ -n "$(grep -L 'ERROR SUMMARY: 0 errors' "${logs[@]}")" ]; then
-        cat "${logs[@]}" >&2
-        echo "memcheck: an error in $1" >&2
-        exit 1
+        fail "an error in $1"
     fi
     echo "memcheck: ${#logs[@]} runs of $1, no error, no leak"
     rm "${logs[@]}"
@@ -31,18 +36,14 @@ compile planted tests/planted.c
 status=0
 "${memcheck[@]}" "$made/planted" || status=$?
 if [ $status != $found ] || ! grep -q 'ERROR SUMMARY: 2 errors' "$made"/*.log; then
-    cat "$made"/*.log >&2
-    echo "memcheck: valgrind does not see the errors of a program that has two" >&2
-    exit 1
+    fail "valgrind does not see the errors of a program that has two"
 fi
 rm "$made"/*.log
 
 compile apply examples/apply.c
 for rule in examples/*.rule; do
     if ! "${memcheck[@]}" "$made/apply" <"$rule" | cmp - "${rule%.rule}.line"; then
-        cat "$made"/*.log >&2
-        echo "memcheck: an error or a wrong line in apply.c < $rule" >&2
-        exit 1
+        fail "an error or a wrong line in apply.c < $rule"
     fi
 done
 no_error apply.c
@@ -52,5 +53,6 @@ compile host tests/linked/host/host.c
 printf '#!/bin/sh\nexec %s %s\n' "${memcheck[*]}" "$made/host" >"$made/checked_host"
 chmod +x "$made/checked_host"
 (cd tests/linked && REED_ENGINE=host REED_OTHER_HOST=$made/checked_host REED_BLOCKS=1 SEED_SHARE=$share \
-    cargo test --offline --release --quiet -j1 --test read --test compile --test check --test run --test watch)
+    cargo test --offline --release --quiet -j1 --test read --test compile --test check --test run --test watch) ||
+    fail "the comparison tests fail"
 no_error "the host, for one of $share seeds"
