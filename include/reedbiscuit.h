@@ -2,7 +2,7 @@
  * Reedbiscuit: wake-plan rules, in calls that are proved.
  *
  * Every call takes every input there can be: any bytes, any words, tables of any length. It needs no start, keeps nothing between calls,
- * takes no memory but its stack and calls nobody; threads may call at the same time on memory of their own.
+ * takes no memory but its stack and calls nobody but C's memset and memcpy; threads may call at the same time on memory of their own.
  */
 #ifndef REEDBISCUIT_H
 #define REEDBISCUIT_H
