@@ -1,7 +1,7 @@
 #!/usr/bin/env bash
 # memcheck.sh [SHARE]: valgrind's memcheck over examples/apply.c, on every rule file, and over the calls of the comparison tests (linked/), one
-# of SHARE seeds, 100 if none is said: no error, no leak. On x86-64 only, where valgrind can run the library; elsewhere it is
-# memcheck_vm.sh. Needs gcc, valgrind, the kit and target/staticlib/libreedbiscuit.a (rt staticlib reedbiscuit).
+# of SHARE seeds, 100 if none is said: no error, no leak. Needs gcc, valgrind, the kit and target/staticlib/libreedbiscuit.a (rt staticlib
+# reedbiscuit). Where valgrind cannot run that, which is x86-64 code, it runs the same crates as code for this machine.
 set -euo pipefail
 cd "$(dirname "$0")/.."
 
@@ -9,6 +9,10 @@ share=${1:-100}
 archive=$PWD/target/staticlib/libreedbiscuit.a
 made=$(mktemp -d)
 trap 'rm -rf "$made"' EXIT
+if [ "$(uname -m)" != x86_64 ]; then
+    bash program/unproved/build.sh native "$made"
+    archive=$made/libreedbiscuit.a
+fi
 found=9
 memcheck=(valgrind --leak-check=full --show-leak-kinds=all --errors-for-leak-kinds=all --error-exitcode=$found --log-file="$made/%p.log")
 
