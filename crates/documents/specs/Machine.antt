@@ -265,6 +265,12 @@ abbrev pub finished : State → Option Term
 finished (state cs env [] off nst) = none
 finished (state cs env (t ∷ st) off nst) = some t
 
+-- the term that a run ends with: none where a match instruction fails, or an instruction has no step
+abbrev pub made : Outcome State → Option Term
+made (done σ) = finished σ
+made fails = none
+made noStep = none
+
 -- the first i outermost instructions: all, if there are fewer
 abbrev pub first : ℕ → Program → Program
 first zero c = End

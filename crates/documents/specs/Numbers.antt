@@ -1,4 +1,4 @@
--- Numbers given back (document 01): the refusals, and in which order each thing that goes in is refused.
+-- Numbers given back (document 01, and the requests of 02): the refusals, and in which order each thing that goes in is refused.
 use Prim.Native.Nat.{ℕ, _*_, _/_, min}
 use mathlib.Core.Bool.{Bool, true, false, _&&_}
 use mathlib.Core.Option.{Option, none, some}
@@ -6,7 +6,7 @@ use mathlib.Core.List.{List}
 use lib.Dec.{leb}
 use lib.ListN.{length}
 use Rattle.documents.specs.declared.Refusal.{Refusal}
-use Rattle.documents.specs.declared.Refusal.the-variants.{TableNotGood, TooManyWords, TooDeep, MetavariableInSubject, LeftRootNoSymbol, FreeVariable, ArgumentsNotDistinctVariables, MetavariableAbsentOnLeft, TooManyMetavariables, CodeTableShort, DoesNotPass, MatchFails, ResultTooLarge, ResultTooDeep, ResultIndexTooLarge, WorkingTableShort, BadFile}
+use Rattle.documents.specs.declared.Refusal.the-variants.{TableNotGood, TooManyWords, TooDeep, MetavariableInSubject, LeftRootNoSymbol, FreeVariable, ArgumentsNotDistinctVariables, MetavariableAbsentOnLeft, TooManyMetavariables, CodeTableShort, DoesNotPass, MatchFails, ResultTooLarge, ResultTooDeep, ResultIndexTooLarge, WorkingTableShort, BadFile, ListTooLong}
 use Rattle.documents.specs.Limits.{sideLimit, planLimit, depthLimit, metavariableLimit, indexLimit}
 use Rattle.documents.specs.Lists.{every, isEmpty}
 use Rattle.documents.specs.Terms.{Term}
@@ -35,6 +35,8 @@ numberOf ResultTooDeep = 14
 numberOf ResultIndexTooLarge = 15
 numberOf WorkingTableShort = 16
 numberOf BadFile = 17
+-- request 1's
+numberOf ListTooLong = 37
 
 -- An answer, or the refusal that is due.
 pub data Answer (A : Type 0) : Type 0 where

@@ -1,4 +1,5 @@
-// What documents 01 and 004 say is in specs/; here stand the opcodes, and the refusals, in the order of 01's tables, and their numbers.
+// What documents 01 and 004 say is in specs/; here stand the opcodes, and the refusals, in the order of 01's tables and then of
+// the requests that bring them (document 02), and their numbers.
 pub mod op; // the fourteen opcodes
 
 ghost use mathlib.Core.Path.{_≡_};
@@ -22,9 +23,10 @@ pub enum Refusal {
     ResultIndexTooLarge,
     WorkingTableShort,
     BadFile,
+    ListTooLong,
 }
 
-// 01's number of a refusal.
+// The number of a refusal.
 pub fn number(refusal: Refusal) -> u32
     ensures { λ r. ⌜ r ≡ numberOf refusal ⌝ }
 {
@@ -46,5 +48,6 @@ pub fn number(refusal: Refusal) -> u32
         Refusal::ResultIndexTooLarge => 15,
         Refusal::WorkingTableShort => 16,
         Refusal::BadFile => 17,
+        Refusal::ListTooLong => 37,
     }
 }

@@ -1,13 +1,14 @@
 -- The rest of demand 1: the numbers are different, a refusal leaves what was lent and counts nothing, and every run leaves zeros.
 use mathlib.Core.Path.{_≡_, refl, sym, ap, _∙_}
-use Prim.Native.Nat.{ℕ, zero, suc, _-_, _<_}
+use Prim.Native.Nat.{ℕ, _<_}
 use native.Mathlib.Omega.{arith}
+use mathlib.Core.Bool.{cond}
 use mathlib.Core.List.{List, [], _∷_}
-use lib.Dec.{T, leb}
+use lib.Dec.{T, eqb, leb}
 use lib.ListN.{length, replicate}
 use borrow.Author.Tests.{leb-true}
 use Rattle.documents.specs.declared.Refusal.{Refusal}
-use Rattle.documents.specs.declared.Refusal.the-variants.{TableNotGood, TooManyWords, TooDeep, MetavariableInSubject, LeftRootNoSymbol, FreeVariable, ArgumentsNotDistinctVariables, MetavariableAbsentOnLeft, TooManyMetavariables, CodeTableShort, DoesNotPass, MatchFails, ResultTooLarge, ResultTooDeep, ResultIndexTooLarge, WorkingTableShort, BadFile}
+use Rattle.documents.specs.declared.Refusal.the-variants.{TableNotGood, TooManyWords, TooDeep, MetavariableInSubject, LeftRootNoSymbol, FreeVariable, ArgumentsNotDistinctVariables, MetavariableAbsentOnLeft, TooManyMetavariables, CodeTableShort, DoesNotPass, MatchFails, ResultTooLarge, ResultTooDeep, ResultIndexTooLarge, WorkingTableShort, BadFile, ListTooLong}
 use Rattle.documents.specs.Numbers.{numberOf, Answer, answered, refused, orRefuse, with, ruleIn, codeFor}
 use Rattle.documents.specs.Calls.{File, file, fileIn, readAnswer, readCall, compileAnswer, compileCall, runAnswer, runs, runCall, WatchAnswer, watchAnswer, watches, watchCall}
 use Rattle.documents.proofs.Lists.{on}
@@ -15,15 +16,14 @@ use Rattle.promises.proofs.Ordered.{DoneIsZero, watches-zero}
 
 -- ---- The numbers
 
--- The refusals in the order of their numbers, from 1. Asked of 0, and past the end, `numbered` gives one of them too; nobody does.
+-- The refusal with a number, looked for among all of them. Asked of a number that none has, it gives one of them too; nobody does.
 abbrev numbered : List Refusal → ℕ → Refusal
 numbered [] n = BadFile
-numbered (r ∷ rs) zero = r
-numbered (r ∷ rs) (suc n) = numbered rs n
+numbered (r ∷ rs) n = cond (eqb (numberOf r) n) r (numbered rs n)
 
 abbrev refusalOf : ℕ → Refusal
 refusalOf n =
-    numbered (TableNotGood ∷ TooManyWords ∷ TooDeep ∷ MetavariableInSubject ∷ LeftRootNoSymbol ∷ FreeVariable ∷ ArgumentsNotDistinctVariables ∷ MetavariableAbsentOnLeft ∷ TooManyMetavariables ∷ CodeTableShort ∷ DoesNotPass ∷ MatchFails ∷ ResultTooLarge ∷ ResultTooDeep ∷ ResultIndexTooLarge ∷ WorkingTableShort ∷ BadFile ∷ []) (n - 1)
+    numbered (TableNotGood ∷ TooManyWords ∷ TooDeep ∷ MetavariableInSubject ∷ LeftRootNoSymbol ∷ FreeVariable ∷ ArgumentsNotDistinctVariables ∷ MetavariableAbsentOnLeft ∷ TooManyMetavariables ∷ CodeTableShort ∷ DoesNotPass ∷ MatchFails ∷ ResultTooLarge ∷ ResultTooDeep ∷ ResultIndexTooLarge ∷ WorkingTableShort ∷ BadFile ∷ ListTooLong ∷ []) n
 
 refusal-of-number : (r : Refusal) → (refusalOf (numberOf r) ≡ r) × T (leb 1 (numberOf r))
 refusal-of-number TableNotGood = (refl, tt)
@@ -43,6 +43,7 @@ refusal-of-number ResultTooDeep = (refl, tt)
 refusal-of-number ResultIndexTooLarge = (refl, tt)
 refusal-of-number WorkingTableShort = (refl, tt)
 refusal-of-number BadFile = (refl, tt)
+refusal-of-number ListTooLong = (refl, tt)
 
 pub one-number : (r s : Refusal) → numberOf r ≡ numberOf s → r ≡ s
 one-number r s e = sym (refusal-of-number r .0) ∙ ap refusalOf e ∙ refusal-of-number s .0

@@ -12,7 +12,7 @@ use Rattle.documents.specs.Terms.{Term}
 use Rattle.documents.specs.Tables.{termIn, nodes, depth, indices}
 use Rattle.documents.specs.Rules.{metas, simple, isSymbol, closed, contains}
 use Rattle.documents.specs.Instructions.{words, programIn}
-use Rattle.documents.specs.Machine.{State, Outcome, done, fails, noStep, run, first, finished}
+use Rattle.documents.specs.Machine.{State, Outcome, done, fails, noStep, run, first, made}
 use Rattle.documents.specs.Translation.{symbolTable, compile}
 use Rattle.documents.specs.Passing.{passes}
 use Rattle.documents.specs.Calls.{fileIn}
@@ -75,12 +75,6 @@ abbrev pub failed : Outcome State → Bool
 failed (done σ) = false
 failed fails = true
 failed noStep = false
-
--- the term that a run ends with
-abbrev pub made : Outcome State → Option Term
-made (done σ) = finished σ
-made fails = none
-made noStep = none
 
 -- the result of code on a subject breaks a limit
 abbrev pub resultBreaks : List ℕ → List ℕ → (Term → Bool) → Bool
