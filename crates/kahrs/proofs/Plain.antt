@@ -16,7 +16,7 @@ use Rattle.kahrs.proofs.Simple.{vars, len-vars, instance-meta, Simple}
 abbrev pub Plain : Val → ℕ → ℕ → Type 0
 Plain val z k = metas (val z k) ≡ []
 
-append-none : (l m : List (ℕ × ℕ)) → l ++ m ≡ [] → (l ≡ []) × (m ≡ [])
+pub append-none : (l m : List (ℕ × ℕ)) → l ++ m ≡ [] → (l ≡ []) × (m ≡ [])
 append-none [] m e = (refl, e)
 append-none (p ∷ l) m e = never (cc)
 

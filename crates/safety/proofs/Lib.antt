@@ -5,3 +5,4 @@ pub mod Matching
 pub mod NeverStuck
 pub mod Counts
 pub mod Limits
+pub mod Named

@@ -1,0 +1,11 @@
+pub mod Contexts
+pub mod FirstNode
+pub mod Ancestors
+pub mod Searching
+pub mod Splicing
+pub mod FirstRule
+pub mod Turned
+pub mod Kept
+pub mod Sequence
+pub mod RuleTables
+pub mod Examples
