@@ -1,4 +1,5 @@
 pub mod Places
 pub mod Stepping
+pub mod Parts
 pub mod Opcodes
 pub mod Whole

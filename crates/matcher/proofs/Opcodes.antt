@@ -10,47 +10,35 @@ use lib.Dec.{eqb, leb, ltb}
 use lib.ListN.{length, getD, getElem?, take, drop, set, length-set}
 use lib.Seq.{drop-drop, getD-drop, getD-set-same, getD-set-other}
 use borrow.Author.Tests.{eq-eqb, ne-eqb, lt-ltb, leb-true, ltb-true, ltb-false}
-use Rattle.documents.specs.declared.Refusal.the-variants.{MetavariableInSubject, MatchFails}
-use Rattle.documents.specs.Limits.{planLimit, argumentLimit, indexLimit, dShift}
-use Rattle.documents.specs.Lists.{every, isEmpty, need}
+use Rattle.documents.specs.declared.Refusal.the-variants.{MatchFails}
+use Rattle.documents.specs.Limits.{argumentLimit, indexLimit, dShift}
+use Rattle.documents.specs.Lists.{every, need}
 use Rattle.documents.specs.Terms.{Abst, Nil, Cons, Term, Terms, rename}
-use Rattle.documents.specs.Tables.{tableOf, nodes, subterm}
-use Rattle.documents.specs.Rules.{metas, freevars}
+use Rattle.documents.specs.Tables.{nodes, subterm}
+use Rattle.documents.specs.Rules.{freevars}
 use Rattle.documents.specs.Instructions.{IS, ISABST, NEXT, CHECK, SET, EQVAR, EQIMM, EQI, pairsIn}
 use Rattle.documents.specs.Machine.{Current, current, Entry, entry, State, state, Outcome, done, fails, noStep, test, argumentsOf, bodyOf, isVar, equal, placed, firsts, renaming, currents, exec}
 use Rattle.documents.specs.Passing.{currentLimit, openLimit, entryLimit, checkLimit, pairLimit, Slot, slot, withSlot, covers, seconds, allBelow, Matching, matching, times}
-use Rattle.documents.specs.Numbers.{answered, unless, tableIn, subjectIn}
 use Rattle.documents.proofs.Lists.{never, case, on, off, T-of, of-and, needed}
 use Rattle.documents.proofs.Nodes.{Numbered}
-use Rattle.documents.proofs.Tables.{length-tableOf}
-use Rattle.documents.proofs.Numbers.{with-is, unless-is, subjectIn-held}
+use Rattle.documents.proofs.Numbers.{subjectIn-held}
 use Rattle.tables.specs.Parts.{front, terms, Begins, wordCount}
 use Rattle.tables.specs.Forbidden.{clear, Small}
 use Rattle.tables.specs.Compared.{agrees}
 use Rattle.tables.proofs.Parts.{join, step, passed, in-table, from, from-drop}
 use Rattle.tables.proofs.Walks.{Walking, at-abstraction, walking-on, walking-term}
-use Rattle.tables.proofs.Accepted.{AcceptedTable, table-begins, accepted-part}
 use Rattle.tables.proofs.Sides.{arguments-are}
 use Rattle.tables.proofs.Fronts.{argument-count, front-symbol, front-abstraction}
 use Rattle.safety.proofs.Matching.{Goes, matches-as-checked}
 use Rattle.matcher.specs.Midway.{Any, inLine, entered, Stands, Midway, entriesAfter, madeAfter, Moves, Fails}
 use Rattle.matcher.proofs.Places.{placed-by, entered-at, entered-more, times-length, arguments-other, arguments-here, body-other, variable-is}
+use Rattle.matcher.proofs.Parts.{subterm-begins}
 use Rattle.matcher.proofs.Stepping.{inside-line, abstraction-count, Reads, reads-is, reads-isabst, reads-next, reads-check, reads-set, reads-eqvar, reads-eqimm, reads-eqi, top-is, positive, begins-one, top-room, low, behind, others, shown, line-is, state-is, fails-by, moves, test-moves, test-fails}
 
--- ---- a subject that was accepted
+-- ---- a place at which a subterm stands
 
-pub accepted-subject : (t : List ℕ) → subjectIn t ≡ answered (front t) → AcceptedTable planLimit t (nodes (front t))
-unfolding subjectIn
-accepted-subject t e =
-    let a = with-is (tableIn planLimit t) (λ u. unless (isEmpty (metas u)) MetavariableInSubject (answered u)) (front t) e in
-    let b = unless-is (isEmpty (metas (a .0))) MetavariableInSubject (answered (a .0)) (front t) (a .2) in
-    let q : a .0 ≡ front t = cc (b .1) in
-    let h = subjectIn-held t (front t) e .0 in
-    record { begins = table-begins (front t) t (h .table) (h .fits) .0; term = a .1 ∙ ap answered q; count = refl; table = h .table; fits = h .fits }
-
--- a place at which a subterm stands
-pub stands-begins : {subject : List ℕ} {x : ℕ} → subjectIn subject ≡ answered (front subject) → Stands subject x → Begins 1 (drop x subject)
-stands-begins {subject} {x} e s = rw (s .place-is) (accepted-part (s .node) (front (drop x subject)) (accepted-subject subject e) (s .here) .0)
+pub stands-begins : {part : List ℕ} {x : ℕ} → Begins 1 part → Stands part x → Begins 1 (drop x part)
+stands-begins {part} {x} b s = rw (s .place-is) (subterm-begins (s .node) (front (drop x part)) b (s .here) .0)
 
 -- ---- the machine, over an open state
 
@@ -95,21 +83,18 @@ later e = cc
 some-is : {M N : Matching} → some M ≡ some N → N ≡ M
 some-is e = cc
 
-module _ {code subject entries : List ℕ} {at top owed made : ℕ} (m : Midway code subject entries at top owed made) where
-  word₀ : getD (drop top subject) 0 0 ≡ getD subject top 0
-  word₀ = getD-drop top subject 0 0 ∙ ap (λ (i : ℕ). getD subject i 0) (omega arith)
+module _ {code part entries : List ℕ} {at top owed made : ℕ} (m : Midway code part entries at top owed made) where
+  word₀ : getD (drop top part) 0 0 ≡ getD part top 0
+  word₀ = getD-drop top part 0 0 ∙ ap (λ (i : ℕ). getD part i 0) (omega arith)
 
-  word₁ : getD (drop top subject) 1 0 ≡ getD subject (top + 1) 0
-  word₁ = getD-drop top subject 1 0
+  word₁ : getD (drop top part) 1 0 ≡ getD part (top + 1) 0
+  word₁ = getD-drop top part 1 0
 
   -- a word of the subject has a place below 8,192
   pub top-low : top ≤ 8192
   top-low =
-      let h = subjectIn-held subject (front subject) (m .accepted) .0 in
-      let l : length (tableOf (front subject)) ≡ length subject = ap (λ (ws : List ℕ). length ws) (h .table) in
-      let k = length-tableOf (front subject) in
-      let n = h .small in
-      let w = m .walking .walk .within in
+      let n = subjectIn-held _ (front part) (m .accepted .accepted) .0 .small in
+      let w = m .walking .ends in
       omega arith
 
   -- ---- IS
@@ -133,32 +118,32 @@ module _ {code subject entries : List ℕ} {at top owed made : ℕ} (m : Midway 
     is-last =
         needed (leb (length (top-is m is-read .below) + getD code (at + 2) 0) currentLimit) _ _ (needed (leb (getD code (at + 2) 0) argumentLimit) _ _ is-rest .1)
 
-    pub is-other : (getD subject top 0 ≡ 65536 + getD code (at + 1) 0 → ⊥) → Fails m MatchFails
-    is-other ne = fails-by m is-read (is-none (top-is m is-read .d) (m .node) (front (drop top subject)) (others m is-read) (entered subject entries (m .es)) (getD code (at + 1) 0) (getD code (at + 2) 0) (arguments-other (begins-one m is-read) (getD code (at + 1) 0) (getD code (at + 2) 0) is-name (λ e. ne (sym word₀ ∙ e))))
+    pub is-other : (getD part top 0 ≡ 65536 + getD code (at + 1) 0 → ⊥) → Fails m MatchFails
+    is-other ne = fails-by m is-read (is-none (top-is m is-read .d) (m .node) (front (drop top part)) (others m is-read) (entered part entries (m .es)) (getD code (at + 1) 0) (getD code (at + 2) 0) (arguments-other (begins-one m is-read) (getD code (at + 1) 0) (getD code (at + 2) 0) is-name (λ e. ne (sym word₀ ∙ e))))
 
-    module _ (e : getD subject top 0 ≡ 65536 + getD code (at + 1) 0) where
-      pub is-fewer : (getD subject (top + 1) 0 ≡ getD code (at + 2) 0 → ⊥) → Fails m MatchFails
+    module _ (e : getD part top 0 ≡ 65536 + getD code (at + 1) 0) where
+      pub is-fewer : (getD part (top + 1) 0 ≡ getD code (at + 2) 0 → ⊥) → Fails m MatchFails
       is-fewer ne =
-          fails-by m is-read (is-none (top-is m is-read .d) (m .node) (front (drop top subject)) (others m is-read) (entered subject entries (m .es)) (getD code (at + 1) 0) (getD code (at + 2) 0)
-          (arguments-here (begins-one m is-read) (getD code (at + 1) 0) (getD code (at + 2) 0) is-name (word₀ ∙ e) ∙ rw (ne-eqb (getD (drop top subject) 1 0) (getD code (at + 2) 0) (λ f. ne (sym word₁ ∙ f)))))
+          fails-by m is-read (is-none (top-is m is-read .d) (m .node) (front (drop top part)) (others m is-read) (entered part entries (m .es)) (getD code (at + 1) 0) (getD code (at + 2) 0)
+          (arguments-here (begins-one m is-read) (getD code (at + 1) 0) (getD code (at + 2) 0) is-name (word₀ ∙ e) ∙ rw (ne-eqb (getD (drop top part) 1 0) (getD code (at + 2) 0) (λ f. ne (sym word₁ ∙ f)))))
 
-      module _ (f : getD subject (top + 1) 0 ≡ getD code (at + 2) 0) where
+      module _ (f : getD part (top + 1) 0 ≡ getD code (at + 2) 0) where
         abbrev args : Terms
-        args = terms (getD (drop top subject) 1 0) (drop 2 (drop top subject))
+        args = terms (getD (drop top part) 1 0) (drop 2 (drop top part))
 
-        args-are : argumentsOf (getD code (at + 1) 0) (getD code (at + 2) 0) (front (drop top subject)) ≡ some args
+        args-are : argumentsOf (getD code (at + 1) 0) (getD code (at + 2) 0) (front (drop top part)) ≡ some args
         args-are =
-            arguments-here (begins-one m is-read) (getD code (at + 1) 0) (getD code (at + 2) 0) is-name (word₀ ∙ e) ∙ rw (eq-eqb (getD (drop top subject) 1 0) (getD code (at + 2) 0) (word₁ ∙ f))
+            arguments-here (begins-one m is-read) (getD code (at + 1) 0) (getD code (at + 2) 0) is-name (word₀ ∙ e) ∙ rw (eq-eqb (getD (drop top part) 1 0) (getD code (at + 2) 0) (word₁ ∙ f))
 
-        opened : terms (owed - 1 + getD code (at + 2) 0) (drop (top + 2) subject) ≡ join args (behind m is-read)
+        opened : terms (owed - 1 + getD code (at + 2) 0) (drop (top + 2) part) ≡ join args (behind m is-read)
         opened =
-            let p = step subject top owed (m .walking .walk .begins) (positive m is-read) in
-            let q = passed owed (drop top subject) (m .walking .walk .begins) (positive m is-read) .terms-are in
+            let p = step part top owed (m .walking .walk .begins) (positive m is-read) in
+            let q = passed owed (drop top part) (m .walking .walk .begins) (positive m is-read) .terms-are in
             let l : p .later ≡ behind m is-read = later (sym (p .node) ∙ q) in
-            let a : args ≡ p .arguments = rw (word₁, drop-drop 2 top subject) (arguments-are (owed - 1 + getD subject (top + 1) 0) (drop (top + 2) subject) p) in
-            ap (λ (n : ℕ). terms (owed - 1 + n) (drop (top + 2) subject)) (sym f) ∙ p .inside ∙ ap₂ join (sym a) l
+            let a : args ≡ p .arguments = rw (word₁, drop-drop 2 top part) (arguments-are (owed - 1 + getD part (top + 1) 0) (drop (top + 2) part) p) in
+            ap (λ (n : ℕ). terms (owed - 1 + n) (drop (top + 2) part)) (sym f) ∙ p .inside ∙ ap₂ join (sym a) l
 
-        front-nodes : nodes (front (drop top subject)) ≡ suc (nodes args)
+        front-nodes : nodes (front (drop top part)) ≡ suc (nodes args)
         front-nodes =
             let n = is-name in
             let w = word₀ in
@@ -176,9 +161,9 @@ module _ {code subject entries : List ℕ} {at top owed made : ℕ} (m : Midway 
             rw (ne-eqb (getD code at 0) 4 (λ q. omega arith))
             (moves m is-read (times (getD code (at + 2) 0) (t .d) (t .below)) (m .es) [] entries (m .node + 1) made (at + 3) (top + 2) (owed - 1 + getD code (at + 2) 0)
             (some-is (is-last .1)) (omega arith) (rw f at (walking-on (m .walking) (positive m is-read))) (omega arith) (omega arith) (omega arith) (m .room) (m .count) (m .few) (m .stands)
-            (ap (exec (IS (getD code (at + 1) 0) (getD code (at + 2) 0))) (state-is m is-read) ∙ is-some (top-is m is-read .d) (m .node) (front (drop top subject)) (others m is-read) (entered subject entries (m .es)) (getD code (at + 1) 0) (getD code (at + 2) 0) args args-are
-            ∙ ap (λ (cs : List Current). done (state cs (entered subject entries (m .es)) [] 0 []))
-            (inside-line (t .d) (m .node) (t .below) args (behind m is-read) (terms (owed - 1 + getD code (at + 2) 0) (drop (top + 2) subject)) (m .node + nodes (front (drop top subject))) (getD code (at + 2) 0) (omega arith) opened (argument-count (begins-one m is-read) ∙ word₁ ∙ f))))
+            (ap (exec (IS (getD code (at + 1) 0) (getD code (at + 2) 0))) (state-is m is-read) ∙ is-some (top-is m is-read .d) (m .node) (front (drop top part)) (others m is-read) (entered part entries (m .es)) (getD code (at + 1) 0) (getD code (at + 2) 0) args args-are
+            ∙ ap (λ (cs : List Current). done (state cs (entered part entries (m .es)) [] 0 []))
+            (inside-line (t .d) (m .node) (t .below) args (behind m is-read) (terms (owed - 1 + getD code (at + 2) 0) (drop (top + 2) part)) (m .node + nodes (front (drop top part))) (getD code (at + 2) 0) (omega arith) opened (argument-count (begins-one m is-read) ∙ word₁ ∙ f))))
 
   -- ---- ISABST
 
@@ -189,32 +174,32 @@ module _ {code subject entries : List ℕ} {at top owed made : ℕ} (m : Midway 
     abst-asked : (ltb (top-is m abst-read .d) openLimit ≡ true) × (some (matching ((top-is m abst-read .d + 1) ∷ top-is m abst-read .below) (m .es) []) ≡ some (abst-read .after))
     abst-asked = needed (ltb (top-is m abst-read .d) openLimit) _ _ (top-is m abst-read .goes)
 
-    pub abst-other : (getD subject top 0 ≡ 196608 → ⊥) → Fails m MatchFails
-    abst-other ne = fails-by m abst-read (abst-none (top-is m abst-read .d) (m .node) (front (drop top subject)) (others m abst-read) (entered subject entries (m .es)) (body-other (begins-one m abst-read) (λ e. ne (sym word₀ ∙ e))))
+    pub abst-other : (getD part top 0 ≡ 196608 → ⊥) → Fails m MatchFails
+    abst-other ne = fails-by m abst-read (abst-none (top-is m abst-read .d) (m .node) (front (drop top part)) (others m abst-read) (entered part entries (m .es)) (body-other (begins-one m abst-read) (λ e. ne (sym word₀ ∙ e))))
 
-    module _ (e : getD subject top 0 ≡ 196608) where
-      front-is : front (drop top subject) ≡ Abst (front (drop (top + 2) subject))
-      front-is = front-abstraction (begins-one m abst-read) (word₀ ∙ e) ∙ rw (drop-drop 2 top subject)
+    module _ (e : getD part top 0 ≡ 196608) where
+      front-is : front (drop top part) ≡ Abst (front (drop (top + 2) part))
+      front-is = front-abstraction (begins-one m abst-read) (word₀ ∙ e) ∙ rw (drop-drop 2 top part)
 
-      body-is : bodyOf (front (drop top subject)) ≡ some (front (drop (top + 2) subject))
+      body-is : bodyOf (front (drop top part)) ≡ some (front (drop (top + 2) part))
       body-is = rw front-is
 
-      one-count : getD subject (top + 1) 0 ≡ 1
-      one-count = abstraction-count (step subject top owed (m .walking .walk .begins) (positive m abst-read)) (omega arith) .0
+      one-count : getD part (top + 1) 0 ≡ 1
+      one-count = abstraction-count (step part top owed (m .walking .walk .begins) (positive m abst-read)) (omega arith) .0
 
-      walks : Walking subject owed (top + 2)
+      walks : Walking part owed (top + 2)
       walks =
           let h = positive m abst-read in
           let z : owed - 1 + 1 ≡ owed = omega arith in
           rw z at (rw one-count at (walking-on (m .walking) h))
 
-      opened-body : terms owed (drop (top + 2) subject) ≡ join (Cons (front (drop (top + 2) subject)) Nil) (behind m abst-read)
+      opened-body : terms owed (drop (top + 2) part) ≡ join (Cons (front (drop (top + 2) part)) Nil) (behind m abst-read)
       opened-body =
           let h = positive m abst-read in
-          let p = at-abstraction subject top owed (m .walking .walk .begins) h (e) .terms-are in
-          let q = passed owed (drop top subject) (m .walking .walk .begins) h .terms-are in
-          let s = passed owed (drop (top + 2) subject) (walks .walk .begins) h .terms-are in
-          s ∙ ap (Cons (front (drop (top + 2) subject))) (ap (terms (owed - 1)) (drop-drop (wordCount (front (drop (top + 2) subject))) (top + 2) subject) ∙ later (sym p ∙ q))
+          let p = at-abstraction part top owed (m .walking .walk .begins) h (e) .terms-are in
+          let q = passed owed (drop top part) (m .walking .walk .begins) h .terms-are in
+          let s = passed owed (drop (top + 2) part) (walks .walk .begins) h .terms-are in
+          s ∙ ap (Cons (front (drop (top + 2) part))) (ap (terms (owed - 1)) (drop-drop (wordCount (front (drop (top + 2) part))) (top + 2) part) ∙ later (sym p ∙ q))
 
       pub abst-moves : Moves m (entriesAfter (getD code at 0) entries made top) (madeAfter (getD code at 0) made) (at + 1) (top + 2) owed
       abst-moves =
@@ -222,13 +207,13 @@ module _ {code subject entries : List ℕ} {at top owed made : ℕ} (m : Midway 
           let h = ap (λ (l : List ℕ). length l) (t .are) in
           let v = m .depths in
           let z = m .place-is in
-          let n : nodes (front (drop top subject)) ≡ suc (nodes (front (drop (top + 2) subject))) = ap (λ (x : Term). nodes x) front-is in
+          let n : nodes (front (drop top part)) ≡ suc (nodes (front (drop (top + 2) part))) = ap (λ (x : Term). nodes x) front-is in
           rw (ne-eqb (getD code at 0) 4 (λ q. omega arith))
           (moves m abst-read ((t .d + 1) ∷ t .below) (m .es) [] entries (m .node + 1) made (at + 1) (top + 2) owed
           (some-is (abst-asked .1)) (omega arith) walks (omega arith) (omega arith) (m .many) (m .room) (m .count) (m .few) (m .stands)
-          (ap (exec ISABST) (state-is m abst-read) ∙ abst-some (top-is m abst-read .d) (m .node) (front (drop top subject)) (others m abst-read) (entered subject entries (m .es)) (front (drop (top + 2) subject)) body-is
-          ∙ ap (λ (cs : List Current). done (state cs (entered subject entries (m .es)) [] 0 []))
-          (inside-line (t .d + 1) (m .node) (t .below) (Cons (front (drop (top + 2) subject)) Nil) (behind m abst-read) (terms owed (drop (top + 2) subject)) (m .node + nodes (front (drop top subject))) 1 (omega arith) opened-body refl)))
+          (ap (exec ISABST) (state-is m abst-read) ∙ abst-some (top-is m abst-read .d) (m .node) (front (drop top part)) (others m abst-read) (entered part entries (m .es)) (front (drop (top + 2) part)) body-is
+          ∙ ap (λ (cs : List Current). done (state cs (entered part entries (m .es)) [] 0 []))
+          (inside-line (t .d + 1) (m .node) (t .below) (Cons (front (drop (top + 2) part)) Nil) (behind m abst-read) (terms owed (drop (top + 2) part)) (m .node + nodes (front (drop top part))) 1 (omega arith) opened-body refl)))
 
   -- ---- NEXT
 
@@ -236,30 +221,30 @@ module _ {code subject entries : List ℕ} {at top owed made : ℕ} (m : Midway 
     abbrev next-read : Reads m NEXT 0
     next-read = reads-next m o
 
-    pub next-moves : (x : ℕ) → x ≡ wordCount (front (from top subject))
+    pub next-moves : (x : ℕ) → x ≡ wordCount (front (from top part))
         → Moves m (entriesAfter (getD code at 0) entries made top) (madeAfter (getD code at 0) made) (at + 1) (top + x) (owed - 1)
     next-moves x f =
-        let e = rw (from-drop top subject) at f in
+        let e = rw (from-drop top part) at f in
         let t = top-is m next-read in
         let h = ap (λ (l : List ℕ). length l) (t .are) in
         let v = m .depths in
         let y = m .many in
         let z = m .place-is in
         rw (ne-eqb (getD code at 0) 4 (λ q. omega arith), e)
-        (moves m next-read (t .below) (m .es) [] entries (m .node + nodes (front (drop top subject))) made (at + 1) (top + wordCount (front (drop top subject))) (owed - 1)
+        (moves m next-read (t .below) (m .es) [] entries (m .node + nodes (front (drop top part))) made (at + 1) (top + wordCount (front (drop top part))) (owed - 1)
         (some-is (t .goes)) (omega arith) (walking-term (m .walking) (positive m next-read)) (omega arith) (omega arith) (omega arith) (m .room) (m .count) (m .few) (m .stands)
         (ap (exec NEXT) (state-is m next-read)
-        ∙ ap (λ (ts : Terms). done (state (inLine (t .below) (m .node + nodes (front (drop top subject))) ts) (entered subject entries (m .es)) [] 0 []))
-        (ap (terms (owed - 1)) (drop-drop (wordCount (front (drop top subject))) top subject))))
+        ∙ ap (λ (ts : Terms). done (state (inLine (t .below) (m .node + nodes (front (drop top part))) ts) (entered part entries (m .es)) [] 0 []))
+        (ap (terms (owed - 1)) (drop-drop (wordCount (front (drop top part))) top part))))
 
-    pub next-room : (x : ℕ) → x ≡ wordCount (front (from top subject)) → top + x ≤ length subject
+    pub next-room : (x : ℕ) → x ≡ wordCount (front (from top part)) → top + x ≤ length part
     next-room x f =
-        let e = rw (from-drop top subject) at f in
+        let e = rw (from-drop top part) at f in
         let w = walking-term (m .walking) (positive m next-read) .walk .within in
         omega arith
 
-    pub next-begins : Begins 1 (from top subject)
-    next-begins = rw (from-drop top subject) (begins-one m next-read)
+    pub next-begins : Begins 1 (from top part)
+    next-begins = rw (from-drop top part) (begins-one m next-read)
 
   -- ---- SET
 
@@ -274,8 +259,8 @@ module _ {code subject entries : List ℕ} {at top owed made : ℕ} (m : Midway 
     pub set-room : made < 16
     set-room = let h = ltb-true (length (m .es)) entryLimit (set-asked .0) in let k = m .count in omega arith
 
-    pub top-stands : Stands subject top
-    top-stands = record { node = m .node; place-is = m .place-is; here = first-numbered (front subject) _ _ _ _ _ (line-is m set-read) (m .numbered) }
+    pub top-stands : Stands part top
+    top-stands = record { node = m .node; place-is = m .place-is; here = first-numbered (front part) _ _ _ _ _ (line-is m set-read) (m .numbered) }
 
     pub set-moves : Moves m (entriesAfter (getD code at 0) entries made top) (madeAfter (getD code at 0) made) (at + 1) top owed
     set-moves =
@@ -289,15 +274,15 @@ module _ {code subject entries : List ℕ} {at top owed made : ℕ} (m : Midway 
         (length-set entries made top ∙ m .room) (omega arith) (omega arith) stands
         (ap (exec SET) (state-is m set-read)
         ∙ ap₂ (λ (cs : List Current) (env : List Entry). done (state cs env [] 0 [])) (sym (line-is m set-read))
-        (sym (entered-more subject entries (m .es) (t .d) (m .g) made top k (omega arith)))))
+        (sym (entered-more part entries (m .es) (t .d) (m .g) made top k (omega arith)))))
       where
-        stands : (j : ℕ) → j < made + 1 → Stands subject (getD (set entries made top) j 0)
+        stands : (j : ℕ) → j < made + 1 → Stands part (getD (set entries made top) j 0)
         stands j h = go (ℕ-discrete j made)
           where
             below : (j ≡ made → ⊥) → j < made + 1 → j < made
             below ne h = case (λ q. j < made) (ltb j made) (λ y. ltb-true j made (on _ y)) (λ y. let k = ltb-false j made (off _ y) in absurd (ne (omega arith)))
 
-            go : Dec (j ≡ made) → Stands subject (getD (set entries made top) j 0)
+            go : Dec (j ≡ made) → Stands part (getD (set entries made top) j 0)
             go (yes e) =
                 let k = set-room in
                 let l = m .room in
@@ -319,8 +304,8 @@ module _ {code subject entries : List ℕ} {at top owed made : ℕ} (m : Midway 
     pub check-end : at + 2 + getD code (at + 1) 0 ≤ length code
     check-end = let h = check-read .within in omega arith
 
-    pub check-begins : Begins 1 (from top subject)
-    check-begins = rw (from-drop top subject) (begins-one m check-read)
+    pub check-begins : Begins 1 (from top part)
+    check-begins = rw (from-drop top part) (begins-one m check-read)
 
     span : at + 2 + getD code (at + 1) 0 - (at + 2) ≡ getD code (at + 1) 0
     span = omega arith
@@ -336,9 +321,9 @@ module _ {code subject entries : List ℕ} {at top owed made : ℕ} (m : Midway 
             let v = low m check-read in
             rw (lt-ltb k 64 (omega arith)) (small ks (on _ (q .1)))
 
-    module _ (q : Bool) (e : q ≡ clear (take (at + 2 + getD code (at + 1) 0 - (at + 2)) (drop (at + 2) code)) (front (from top subject))) where
+    module _ (q : Bool) (e : q ≡ clear (take (at + 2 + getD code (at + 1) 0 - (at + 2)) (drop (at + 2) code)) (front (from top part))) where
       check-test : exec (CHECK listed) (shown m check-read) ≡ test q (shown m check-read)
-      check-test = check-goes (top-is m check-read .d) (m .node) (front (drop top subject)) (others m check-read) (entered subject entries (m .es)) listed ∙ ap (λ (b : Bool). test b (shown m check-read)) {y = q} (sym (rw (from-drop top subject) at e ∙ ap (λ (n : ℕ). clear (take n (drop (at + 2) code)) (front (drop top subject))) span))
+      check-test = check-goes (top-is m check-read .d) (m .node) (front (drop top part)) (others m check-read) (entered part entries (m .es)) listed ∙ ap (λ (b : Bool). test b (shown m check-read)) {y = q} (sym (rw (from-drop top part) at e ∙ ap (λ (n : ℕ). clear (take n (drop (at + 2) code)) (front (drop top part))) span))
 
       pub check-moves : q ≡ true → Moves m (entriesAfter (getD code at 0) entries made top) (madeAfter (getD code at 0) made) (at + 2 + getD code (at + 1) 0) top owed
       check-moves t = test-moves m check-read listed _ (some-is (check-asked .1)) (omega arith) (λ z. omega arith) q check-test t
@@ -356,16 +341,16 @@ module _ {code subject entries : List ℕ} {at top owed made : ℕ} (m : Midway 
         × (some (matching (top-is m eqvar-read .d ∷ top-is m eqvar-read .below) (m .es) []) ≡ some (eqvar-read .after))
     eqvar-asked = needed (ltb (getD code (at + 1) 0) (top-is m eqvar-read .d)) _ _ (top-is m eqvar-read .goes)
 
-    variable : isVar (getD code (at + 1) 0) (front (drop top subject)) ≡ eqb (getD subject top 0) (getD code (at + 1) 0)
+    variable : isVar (getD code (at + 1) 0) (front (drop top part)) ≡ eqb (getD part top 0) (getD code (at + 1) 0)
     variable =
         let h = ltb-true (getD code (at + 1) 0) (top-is m eqvar-read .d) (eqvar-asked .0) in
         let l = low m eqvar-read in
         variable-is (begins-one m eqvar-read) (getD code (at + 1) 0) (omega arith) ∙ ap (λ (w : ℕ). eqb w (getD code (at + 1) 0)) word₀
 
-    pub eqvar-moves : getD subject top 0 ≡ getD code (at + 1) 0 → Moves m (entriesAfter (getD code at 0) entries made top) (madeAfter (getD code at 0) made) (at + 2) top owed
+    pub eqvar-moves : getD part top 0 ≡ getD code (at + 1) 0 → Moves m (entriesAfter (getD code at 0) entries made top) (madeAfter (getD code at 0) made) (at + 2) top owed
     eqvar-moves e = test-moves m eqvar-read [] _ (some-is (eqvar-asked .1)) (omega arith) (λ z. omega arith) _ refl (variable ∙ eq-eqb _ _ e)
 
-    pub eqvar-other : (getD subject top 0 ≡ getD code (at + 1) 0 → ⊥) → Fails m MatchFails
+    pub eqvar-other : (getD part top 0 ≡ getD code (at + 1) 0 → ⊥) → Fails m MatchFails
     eqvar-other ne = test-fails m eqvar-read [] _ (some-is (eqvar-asked .1)) refl (λ z. omega arith) _ refl (variable ∙ ne-eqb _ _ ne)
 
   -- ---- EQIMM and EQI: an entry
@@ -384,11 +369,11 @@ module _ {code subject entries : List ℕ} {at top owed made : ℕ} (m : Midway 
     pub says : f b h ≡ some after
     pub there : getD code (at + 1) 0 < made
     pub depth : ℕ
-    pub here : getElem? (entered subject entries (m .es)) (getD code (at + 1) 0) ≡ some (entry depth (front (drop oldPlace subject)))
+    pub here : getElem? (entered part entries (m .es)) (getD code (at + 1) 0) ≡ some (entry depth (front (drop oldPlace part)))
 
   old : (after : Matching) (f : ℕ → List ℕ → Option Matching) → withSlot (getElem? (m .es) (getD code (at + 1) 0)) f ≡ some after → Old after f
   old after f w =
-      let q = entered-at subject entries (m .es) (getD code (at + 1) 0) f after w in
+      let q = entered-at part entries (m .es) (getD code (at + 1) 0) f after w in
       let k = m .count in
       let z = slot-is (getElem? (m .es) (getD code (at + 1) 0)) f after w in
       record { b = z .0; h = z .1; says = z .2; there = (let l = q .1 in omega arith); depth = q .0; here = rw k at (q .2) }
@@ -410,11 +395,11 @@ module _ {code subject entries : List ℕ} {at top owed made : ℕ} (m : Midway 
     eqimm-after : eqimm-read .after ≡ matching (top-is m eqimm-read .d ∷ top-is m eqimm-read .below) (m .es) []
     eqimm-after = some-is (needed (eqb (top-is m eqimm-read .d) (eqimm-old .b)) _ _ (eqimm-old .says) .1)
 
-    module _ (q : Bool) (e : q ≡ equal (front (from oldPlace subject)) (front (from top subject))) where
+    module _ (q : Bool) (e : q ≡ equal (front (from oldPlace part)) (front (from top part))) where
       eqimm-test : exec (EQIMM (getD code (at + 1) 0)) (shown m eqimm-read) ≡ test q (shown m eqimm-read)
       eqimm-test =
-          eqimm-goes (top-is m eqimm-read .d) (m .node) (front (drop top subject)) (others m eqimm-read) (entered subject entries (m .es)) (getD code (at + 1) 0) _ _ (eqimm-old .here)
-          ∙ ap (λ (b : Bool). test b (shown m eqimm-read)) {y = q} (sym (rw (from-drop oldPlace subject, from-drop top subject) at e))
+          eqimm-goes (top-is m eqimm-read .d) (m .node) (front (drop top part)) (others m eqimm-read) (entered part entries (m .es)) (getD code (at + 1) 0) _ _ (eqimm-old .here)
+          ∙ ap (λ (b : Bool). test b (shown m eqimm-read)) {y = q} (sym (rw (from-drop oldPlace part, from-drop top part) at e))
 
       pub eqimm-moves : q ≡ true → Moves m (entriesAfter (getD code at 0) entries made top) (madeAfter (getD code at 0) made) (at + 2) top owed
       eqimm-moves t = test-moves m eqimm-read [] _ eqimm-after (omega arith) (λ z. omega arith) q eqimm-test t
@@ -450,15 +435,15 @@ module _ {code subject entries : List ℕ} {at top owed made : ℕ} (m : Midway 
     pub eqi-end : at + 4 + 2 * getD code (at + 3) 0 ≤ length code
     eqi-end = let h = eqi-read .within in omega arith
 
-    module _ (q : Bool) (e : q ≡ agrees (take (at + 4 + 2 * getD code (at + 3) 0 - (at + 4)) (drop (at + 4) code)) (getD code (at + 2) 0) (front (from oldPlace subject)) (front (from top subject))) where
+    module _ (q : Bool) (e : q ≡ agrees (take (at + 4 + 2 * getD code (at + 3) 0 - (at + 4)) (drop (at + 4) code)) (getD code (at + 2) 0) (front (from oldPlace part)) (front (from top part))) where
       eqi-test : exec (EQI (getD code (at + 1) 0) (getD code (at + 2) 0) pairs) (shown m eqi-read) ≡ test q (shown m eqi-read)
       eqi-test =
           let z : at + 4 + 2 * getD code (at + 3) 0 - (at + 4) ≡ 2 * getD code (at + 3) 0 = omega arith in
           let u = matches-as-checked Any [] 0 [] (EQI (getD code (at + 1) 0) (getD code (at + 2) 0) pairs) (matching (m .ds) (m .es) (m .g)) (eqi-read .after) _ _ (eqi-read .goes) (m .agrees) in
-          eqi-goes (top-is m eqi-read .d) (m .node) (front (drop top subject)) (others m eqi-read) (entered subject entries (m .es)) (getD code (at + 1) 0) (getD code (at + 2) 0) pairs _ _
+          eqi-goes (top-is m eqi-read .d) (m .node) (front (drop top part)) (others m eqi-read) (entered part entries (m .es)) (getD code (at + 1) 0) (getD code (at + 2) 0) pairs _ _
           (goes-as (ap (exec (EQI (getD code (at + 1) 0) (getD code (at + 2) 0) pairs)) (state-is m eqi-read)) u) (eqi-old .here)
           ∙ ap (λ (b : Bool). test b (shown m eqi-read)) {y = q}
-          (sym (rw (from-drop oldPlace subject, from-drop top subject) at e ∙ ap (λ (n : ℕ). agrees (take n (drop (at + 4) code)) (getD code (at + 2) 0) (front (drop oldPlace subject)) (front (drop top subject))) z))
+          (sym (rw (from-drop oldPlace part, from-drop top part) at e ∙ ap (λ (n : ℕ). agrees (take n (drop (at + 4) code)) (getD code (at + 2) 0) (front (drop oldPlace part)) (front (drop top part))) z))
 
       pub eqi-moves : q ≡ true → Moves m (entriesAfter (getD code at 0) entries made top) (madeAfter (getD code at 0) made) (at + 4 + 2 * getD code (at + 3) 0) top owed
       eqi-moves t = test-moves m eqi-read [] _ eqi-after (omega arith) (λ z. omega arith) q eqi-test t
@@ -491,17 +476,17 @@ module _ {code subject entries : List ℕ} {at top owed made : ℕ} (m : Midway 
     pub operand-there : at + 2 ≤ length code
     operand-there = either (λ o. let h = eqimm-read o .within in omega arith) (λ o. let h = eqi-read o .within in omega arith)
 
-    pub compare-begins : Begins 1 (from top subject)
-    compare-begins = rw (from-drop top subject) (either (λ o. begins-one m (eqimm-read o)) (λ o. begins-one m (eqi-read o)))
+    pub compare-begins : Begins 1 (from top part)
+    compare-begins = rw (from-drop top part) (either (λ o. begins-one m (eqimm-read o)) (λ o. begins-one m (eqi-read o)))
 
-    pub compare-room : top + 2 ≤ length subject
+    pub compare-room : top + 2 ≤ length part
     compare-room = either (λ o. top-room m (eqimm-read o)) (λ o. top-room m (eqi-read o))
 
-    old-begins : Begins 1 (drop oldPlace subject)
-    old-begins = stands-begins (m .accepted) (m .stands (made - 1 - getD code (at + 1) 0) (let h = entry-there in omega arith))
+    old-begins : Begins 1 (drop oldPlace part)
+    old-begins = stands-begins (m .accepted .whole) (m .stands (made - 1 - getD code (at + 1) 0) (let h = entry-there in omega arith))
 
-    pub old-part : Begins 1 (from oldPlace subject)
-    old-part = rw (from-drop oldPlace subject) old-begins
+    pub old-part : Begins 1 (from oldPlace part)
+    old-part = rw (from-drop oldPlace part) old-begins
 
-    pub old-room : oldPlace + 2 ≤ length subject
-    old-room = let h = in-table subject oldPlace old-begins (omega arith) in omega arith
+    pub old-room : oldPlace + 2 ≤ length part
+    old-room = let h = in-table part oldPlace old-begins (omega arith) in omega arith

@@ -77,27 +77,27 @@ placed-by false q σ (going cs env e a) = never (cc)
 
 -- ---- an entry
 
-pub entered-at : {A : Type 0} (subject entries : List ℕ) (es : List Slot) (e : ℕ) (f : ℕ → List ℕ → Option A) (r : A) → withSlot (getElem? es e) f ≡ some r
-    → (b : ℕ) × (e < length es) × (getElem? (entered subject entries es) e ≡ some (entry b (front (drop (getD entries (length es - 1 - e) 0) subject))))
-entered-at subject entries [] e f r w = never (cc)
-entered-at subject entries (slot b g ∷ es) zero f r w =
+pub entered-at : {A : Type 0} (part entries : List ℕ) (es : List Slot) (e : ℕ) (f : ℕ → List ℕ → Option A) (r : A) → withSlot (getElem? es e) f ≡ some r
+    → (b : ℕ) × (e < length es) × (getElem? (entered part entries es) e ≡ some (entry b (front (drop (getD entries (length es - 1 - e) 0) part))))
+entered-at part entries [] e f r w = never (cc)
+entered-at part entries (slot b g ∷ es) zero f r w =
     let z : suc (length es) - 1 - 0 ≡ length es = omega arith in
-    (b, omega arith, ap (λ (k : ℕ). some (entry b (front (drop (getD entries k 0) subject)))) (sym z))
-entered-at subject entries (slot b g ∷ es) (suc e) f r w =
-    let k = entered-at subject entries es e f r w in
+    (b, omega arith, ap (λ (k : ℕ). some (entry b (front (drop (getD entries k 0) part)))) (sym z))
+entered-at part entries (slot b g ∷ es) (suc e) f r w =
+    let k = entered-at part entries es e f r w in
     let z : suc (length es) - 1 - suc e ≡ length es - 1 - e = omega arith in
-    (k .0, (let h = k .1 in omega arith), k .2 ∙ ap (λ (j : ℕ). some (entry (k .0) (front (drop (getD entries j 0) subject)))) (sym z))
+    (k .0, (let h = k .1 in omega arith), k .2 ∙ ap (λ (j : ℕ). some (entry (k .0) (front (drop (getD entries j 0) part)))) (sym z))
 
 -- what is written behind them leaves them as they are
-entered-set : (subject entries : List ℕ) (es : List Slot) (n x : ℕ) → length es ≤ n → entered subject (set entries n x) es ≡ entered subject entries es
-entered-set subject entries [] n x h = refl
-entered-set subject entries (slot b g ∷ es) n x h =
+entered-set : (part entries : List ℕ) (es : List Slot) (n x : ℕ) → length es ≤ n → entered part (set entries n x) es ≡ entered part entries es
+entered-set part entries [] n x h = refl
+entered-set part entries (slot b g ∷ es) n x h =
     let ne : length es ≡ n → ⊥ = λ e. omega arith in
-    rw (getD-set-other entries n (length es) x 0 ne, entered-set subject entries es n x (omega arith))
+    rw (getD-set-other entries n (length es) x 0 ne, entered-set part entries es n x (omega arith))
 
-pub entered-more : (subject entries : List ℕ) (es : List Slot) (b : ℕ) (g : List ℕ) (n x : ℕ) → length es ≡ n → n < length entries
-    → entered subject (set entries n x) (slot b g ∷ es) ≡ entry b (front (drop x subject)) ∷ entered subject entries es
-entered-more subject entries es b g n x e h = rw (e, getD-set-same entries n x 0 h, entered-set subject entries es n x (omega arith))
+pub entered-more : (part entries : List ℕ) (es : List Slot) (b : ℕ) (g : List ℕ) (n x : ℕ) → length es ≡ n → n < length entries
+    → entered part (set entries n x) (slot b g ∷ es) ≡ entry b (front (drop x part)) ∷ entered part entries es
+entered-more part entries es b g n x e h = rw (e, getD-set-same entries n x 0 h, entered-set part entries es n x (omega arith))
 
 -- ---- current terms
 

@@ -52,13 +52,13 @@ abstraction-count {k = suc (suc (suc zero))} p e = (sym (p .count) ∙ ap len (p
 abstraction-count {k = suc (suc (suc (suc k)))} p e = absurd (p .shape)
 
 -- both tables have the words that an instruction of n words behind its opcode looks at
-pub record Bounds (code subject : List ℕ) (at top owed n : ℕ) : Type 0 where
-  pub room : top + 2 ≤ length subject
+pub record Bounds (code part : List ℕ) (at top owed n : ℕ) : Type 0 where
+  pub room : top + 2 ≤ length part
   pub words : at + 1 + n ≤ length code
   pub positive : 0 < owed
   pub many : owed ≤ 256
 
-module _ {code subject entries : List ℕ} {at top owed made : ℕ} (m : Midway code subject entries at top owed made) where
+module _ {code part entries : List ℕ} {at top owed made : ℕ} (m : Midway code part entries at top owed made) where
   -- ---- the instruction that is read
 
   -- one of n words behind the opcode, before the rest
@@ -122,50 +122,50 @@ module _ {code subject entries : List ℕ} {at top owed made : ℕ} (m : Midway 
     pub positive : 0 < owed
     positive = let h = ap (λ (l : List ℕ). length l) (top-is .are) in let k = m .depths in omega arith
 
-    pub begins-one : Begins 1 (drop top subject)
+    pub begins-one : Begins 1 (drop top part)
     begins-one = begins-less 1 positive (m .walking .walk .begins)
 
-    pub top-room : top + 2 ≤ length subject
+    pub top-room : top + 2 ≤ length part
     top-room = let h = positive in let k = m .walking .walk .within in omega arith
 
     pub low : top-is .d ≤ 63
-    low = depth-low (m .ds) (top-is .d) (top-is .below) (m .node) (terms owed (drop top subject)) (m .es) (m .g) _ (top-is .are) there (m .agrees)
+    low = depth-low (m .ds) (top-is .d) (top-is .below) (m .node) (terms owed (drop top part)) (m .es) (m .g) _ (top-is .are) there (m .agrees)
       where
-        there : 0 < len (terms owed (drop top subject))
-        there = rw (passed owed (drop top subject) (m .walking .walk .begins) positive .terms-are) (omega arith)
+        there : 0 < len (terms owed (drop top part))
+        there = rw (passed owed (drop top part) (m .walking .walk .begins) positive .terms-are) (omega arith)
 
     -- the words that the code looks at
-    pub bounds : Bounds code subject at top owed n
+    pub bounds : Bounds code part at top owed n
     bounds = record { room = top-room; words = r .within; positive = positive; many = m .many }
 
     -- the terms behind the top
     abbrev pub behind : Terms
-    behind = terms (owed - 1) (drop (wordCount (front (drop top subject))) (drop top subject))
+    behind = terms (owed - 1) (drop (wordCount (front (drop top part))) (drop top part))
 
     -- .. as current terms
     abbrev pub others : List Current
-    others = inLine (top-is .below) (m .node + nodes (front (drop top subject))) behind
+    others = inLine (top-is .below) (m .node + nodes (front (drop top part))) behind
 
     -- the state with the top in it
     abbrev pub shown : State
-    shown = state (current (top-is .d) (m .node) (front (drop top subject)) ∷ others) (entered subject entries (m .es)) [] 0 []
+    shown = state (current (top-is .d) (m .node) (front (drop top part)) ∷ others) (entered part entries (m .es)) [] 0 []
 
-    pub line-is : inLine (m .ds) (m .node) (terms owed (drop top subject))
-        ≡ current (top-is .d) (m .node) (front (drop top subject)) ∷ others
+    pub line-is : inLine (m .ds) (m .node) (terms owed (drop top part))
+        ≡ current (top-is .d) (m .node) (front (drop top part)) ∷ others
     line-is =
-        in-line-top (m .ds) (top-is .d) (top-is .below) (m .node) _ _ _ (top-is .are) (passed owed (drop top subject) (m .walking .walk .begins) positive .terms-are)
+        in-line-top (m .ds) (top-is .d) (top-is .below) (m .node) _ _ _ (top-is .are) (passed owed (drop top part) (m .walking .walk .begins) positive .terms-are)
 
     pub state-is : stateOf m ≡ shown
-    state-is = ap (λ (cs : List Current). state cs (entered subject entries (m .es)) [] 0 []) line-is
+    state-is = ap (λ (cs : List Current). state cs (entered part entries (m .es)) [] 0 []) line-is
 
     pub fails-by : exec i shown ≡ fails → Fails m MatchFails
     fails-by e = record { i = i; c = r .c; begins = r .begins; goes = ap (exec i) state-is ∙ e; why = refl }
 
     -- on to the check's next state
     pub moves : (ds : List ℕ) (es : List Slot) (g : List ℕ) (entries′ : List ℕ) (k made′ p top′ current′ : ℕ)
-        → r .after ≡ matching ds es g → at + 1 + n ≡ p → Walking subject current′ top′ → top′ ≡ 2 * k → length ds ≡ current′ → current′ ≤ 256
-        → length entries′ ≡ 16 → length es ≡ made′ → made′ ≤ 16 → ((j : ℕ) → j < made′ → Stands subject (getD entries′ j 0))
-        → exec i (stateOf m) ≡ done (state (inLine ds k (terms current′ (drop top′ subject))) (entered subject entries′ es) [] 0 [])
+        → r .after ≡ matching ds es g → at + 1 + n ≡ p → Walking part current′ top′ → top′ ≡ 2 * k → length ds ≡ current′ → current′ ≤ 256
+        → length entries′ ≡ 16 → length es ≡ made′ → made′ ≤ 16 → ((j : ℕ) → j < made′ → Stands part (getD entries′ j 0))
+        → exec i (stateOf m) ≡ done (state (inLine ds k (terms current′ (drop top′ part))) (entered part entries′ es) [] 0 [])
         → Moves m entries′ made′ p top′ current′
     moves ds es g entries′ k made′ p top′ current′ a f w l h b x y z s e =
         let v = r .within in
@@ -193,7 +193,7 @@ module _ {code subject entries : List ℕ} {at top owed made : ℕ} (m : Midway 
             count = y;
             few = z;
             stands = s;
-            numbered = numbered-step (front subject) i (stateOf m) (state (inLine ds k (terms current′ (drop top′ subject))) (entered subject entries′ es) [] 0 []) (T-of _ (lt-ltb (opcode i) 8 (omega arith))) e (m .numbered);
+            numbered = numbered-step (front part) i (stateOf m) (state (inLine ds k (terms current′ (drop top′ part))) (entered part entries′ es) [] 0 []) (T-of _ (lt-ltb (opcode i) 8 (omega arith))) e (m .numbered);
             agrees = rw a at (goes-agrees _ _ u e);
           };
           begins = r .begins;

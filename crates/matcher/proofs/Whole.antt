@@ -1,6 +1,6 @@
 -- The match part as a whole: where it begins, how an instruction takes it on, and what it leaves to the build part.
 use mathlib.Core.Path.{_≡_, refl, sym, ap, _∙_}
-use Prim.Native.Nat.{ℕ, zero, suc, _+_, _-_, _<_}
+use Prim.Native.Nat.{ℕ, zero, suc, _+_, _-_, _*_, _<_}
 use native.Mathlib.Omega.{arith}
 use mathlib.Core.Bool.{true, false}
 use mathlib.Core.Option.{some, Option·some-injective}
@@ -11,16 +11,16 @@ use borrow.Author.Tests.{eq-eqb, ne-eqb, le-ltb}
 use Rattle.documents.specs.declared.Refusal.{Refusal}
 use Rattle.documents.specs.declared.Refusal.the-variants.{MatchFails}
 use Rattle.documents.specs.Terms.{Nil, Cons, Terms}
+use Rattle.documents.specs.Tables.{nodes}
 use Rattle.documents.specs.Instructions.{End, _▸_, Instruction, Program, opcode, programIn}
 use Rattle.documents.specs.Machine.{State, state, done, fails, exec, run, start}
 use Rattle.documents.specs.Passing.{Slot, slot, Matching, matching, oneTerm, build, builds, parts, passes}
-use Rattle.documents.specs.Numbers.{answered, subjectIn}
 use Rattle.documents.proofs.Lists.{T-of}
 use Rattle.documents.proofs.FreeVariables.{free-all}
 use Rattle.documents.proofs.Nodes.{Numbered, numbered-start}
 use Rattle.tables.specs.Parts.{front, terms}
 use Rattle.tables.proofs.Parts.{front-term}
-use Rattle.tables.proofs.Walks.{walking-from}
+use Rattle.tables.proofs.Walks.{walking-from, walking-ended}
 use Rattle.instructions.specs.Places.{programAt}
 use Rattle.instructions.proofs.Reading.{First, program-first}
 use Rattle.safety.proofs.Entries.{entries-length}
@@ -31,22 +31,20 @@ use Rattle.matcher.specs.declared.Stepped.{Stepped}
 use Rattle.matcher.specs.declared.Stepped.the-variants as stepped
 use Rattle.matcher.specs.declared.Matched.the-variants as matched
 use Rattle.matcher.specs.Midway.{Any, inLine, entered, Midway, stateOf, entriesAfter, madeAfter, Moves, Fails, Steps}
-use Rattle.matcher.specs.Ready.{Ready, Comes}
+use Rattle.matcher.specs.Ready.{Begins, Ready, Comes}
 use Rattle.matcher.proofs.Places.{not-ended}
-use Rattle.matcher.proofs.Opcodes.{accepted-subject}
 
 -- ---- the beginning
 
-module _ (code subject entries : List ℕ) (p : passes code ≡ true) (a : subjectIn subject ≡ answered (front subject)) (r : length entries ≡ 16) where
+module _ (code part entries : List ℕ) (p : passes code ≡ true) (a : Begins part) (r : length entries ≡ 16) where
   whole-here : (c : Program) → programIn code ≡ some c → programAt code 0 (length code) ≡ some c
   whole-here c e = let z : length code - 0 ≡ length code = omega arith in rw z e
 
-  pub midway-start : Midway code subject entries 0 0 1 0
+  pub midway-start : Midway code part entries 0 0 1 0
   midway-start =
       let q = passing-obeys code (T-of _ p) in
       let h = whole-here (q .0) (q .1) in
-      let b = accepted-subject subject a .begins in
-      let t : terms 1 subject ≡ Cons (front subject) Nil = front-term subject b in
+      let t : terms 1 part ≡ Cons (front part) Nil = front-term part (a .whole) in
       record {
         rest = q .0;
         ds = 0 ∷ [];
@@ -56,7 +54,7 @@ module _ (code subject entries : List ℕ) (p : passes code ≡ true) (a : subje
         here = h;
         checked = q .2;
         accepted = a;
-        walking = walking-from b;
+        walking = walking-from (a .whole);
         node = 0;
         place-is = refl;
         depths = refl;
@@ -65,17 +63,17 @@ module _ (code subject entries : List ℕ) (p : passes code ≡ true) (a : subje
         count = refl;
         few = omega arith;
         stands = λ i l. absurd (omega arith);
-        numbered = at-start t (λ ts. Numbered (front subject) (inLine (0 ∷ []) 0 ts)) (numbered-start (front subject));
-        agrees = at-start t (λ ts. Agrees Any (matching (0 ∷ []) [] []) (inLine (0 ∷ []) 0 ts) []) (agrees-at-start Any (front subject) (free-all Any (front subject) (λ x. tt)));
+        numbered = at-start t (λ ts. Numbered (front part) (inLine (0 ∷ []) 0 ts)) (numbered-start (front part));
+        agrees = at-start t (λ ts. Agrees Any (matching (0 ∷ []) [] []) (inLine (0 ∷ []) 0 ts) []) (agrees-at-start Any (front part) (free-all Any (front part) (λ x. tt)));
       }
     where
       at-start : {ts us : Terms} → ts ≡ us → (P : Terms → Type 0) → P us → P ts
       at-start e P h = rw e h
 
   -- the machine's first state
-  pub start-is : stateOf midway-start ≡ start (front subject)
+  pub start-is : stateOf midway-start ≡ start (front part)
   unfolding midway-start terms
-  start-is = ap (λ (ts : Terms). state (inLine (0 ∷ []) 0 ts) [] [] 0 []) (front-term subject (accepted-subject subject a .begins))
+  start-is = ap (λ (ts : Terms). state (inLine (0 ∷ []) 0 ts) [] [] 0 []) (front-term part (a .whole))
 
   pub start-rest : (c : Program) → programIn code ≡ some c → midway-start .rest ≡ c
   unfolding midway-start
@@ -97,22 +95,22 @@ pub failed : (rest : Program) (i : Instruction) (c : Program) (σ : State) → r
 failed rest i c σ e f = rw (e, f)
 
 -- the code's program comes to what the rest of it comes to from here
-pub record Going (code subject entries : List ℕ) (at top current made : ℕ) : Type 0 where
-  pub midway : Midway code subject entries at top current made
-  pub goes : (c : Program) → programIn code ≡ some c → run c (front subject) ≡ exec (midway .rest) (stateOf midway)
+pub record Going (code part entries : List ℕ) (at top current made : ℕ) : Type 0 where
+  pub midway : Midway code part entries at top current made
+  pub goes : (c : Program) → programIn code ≡ some c → run c (front part) ≡ exec (midway .rest) (stateOf midway)
 
-pub going-from : (code subject entries : List ℕ) → passes code ≡ true → subjectIn subject ≡ answered (front subject) → length entries ≡ 16 → Going code subject entries 0 0 1 0
-going-from code subject entries p a r = record {
-  midway = midway-start code subject entries p a r;
-  goes = λ c e. ap (λ (σ : State). exec c σ) (sym (start-is code subject entries p a r)) ∙ ap (λ (d : Program). exec d (stateOf (midway-start code subject entries p a r))) (sym (start-rest code subject entries p a r c e));
+pub going-from : (code part entries : List ℕ) → passes code ≡ true → Begins part → length entries ≡ 16 → Going code part entries 0 0 1 0
+going-from code part entries p a r = record {
+  midway = midway-start code part entries p a r;
+  goes = λ c e. ap (λ (σ : State). exec c σ) (sym (start-is code part entries p a r)) ∙ ap (λ (d : Program). exec d (stateOf (midway-start code part entries p a r))) (sym (start-rest code part entries p a r c e));
 }
 
-module _ {code subject entries : List ℕ} {at top current made : ℕ} (g : Going code subject entries at top current made) where
-  going-on : {entries′ : List ℕ} {made′ p top′ current′ : ℕ} → Moves (g .midway) entries′ made′ p top′ current′ → Going code subject entries′ p top′ current′ made′
+module _ {code part entries : List ℕ} {at top current made : ℕ} (g : Going code part entries at top current made) where
+  going-on : {entries′ : List ℕ} {made′ p top′ current′ : ℕ} → Moves (g .midway) entries′ made′ p top′ current′ → Going code part entries′ p top′ current′ made′
   going-on s = record { midway = s .next; goes = λ c e. g .goes c e ∙ moved (g .midway .rest) (s .i) (s .next .rest) _ _ (s .begins) (s .goes) }
 
-  module _ {r : Stepped} (s : Steps code subject entries at top current made r) where
-    pub going-refused : (w : Refusal) → r ≡ stepped.Refused w → Comes code subject entries (matched.Refused MatchFails)
+  module _ {r : Stepped} (s : Steps code part entries at top current made r) where
+    pub going-refused : (w : Refusal) → r ≡ stepped.Refused w → Comes code part entries (matched.Refused MatchFails)
     going-refused w e = record {
       means = λ c d.
           let f : Fails (g .midway) w = rw e at (s .means (g .midway)) in
@@ -129,7 +127,7 @@ module _ {code subject entries : List ℕ} {at top current made : ℕ} (g : Goin
       pub going-inside : p < length code
       going-inside = to .next .inside
 
-      pub going-next : {new : List ℕ} {n : ℕ} → new ≡ entriesAfter (getD code at 0) entries made top → n ≡ madeAfter (getD code at 0) made → Going code subject new p top′ current′ n
+      pub going-next : {new : List ℕ} {n : ℕ} → new ≡ entriesAfter (getD code at 0) entries made top → n ≡ madeAfter (getD code at 0) made → Going code part new p top′ current′ n
       going-next e f = rw (e, f) (going-on to)
 
 -- ---- the build part
@@ -142,30 +140,34 @@ none-left : (ds : List ℕ) (es : List Slot) (g : List ℕ) (c : Program) → T 
 none-left [] es g c t = (refl, t)
 none-left (d ∷ ds) es g c t = absurd t
 
-entered-of : (subject entries : List ℕ) (es : List Slot) (e : ℕ) → e < length es
-    → entryOf (entered subject entries es) e ≡ front (drop (getD entries (length es - 1 - e) 0) subject)
-entered-of subject entries [] e l = absurd (omega arith)
-entered-of subject entries (slot b g ∷ es) zero l = let z : suc (length es) - 1 - 0 ≡ length es = omega arith in rw z
-entered-of subject entries (slot b g ∷ es) (suc e) l =
+entered-of : (part entries : List ℕ) (es : List Slot) (e : ℕ) → e < length es
+    → entryOf (entered part entries es) e ≡ front (drop (getD entries (length es - 1 - e) 0) part)
+entered-of part entries [] e l = absurd (omega arith)
+entered-of part entries (slot b g ∷ es) zero l = let z : suc (length es) - 1 - 0 ≡ length es = omega arith in rw z
+entered-of part entries (slot b g ∷ es) (suc e) l =
     let z : suc (length es) - 1 - suc e ≡ length es - 1 - e = omega arith in
-    rw z (entered-of subject entries es e (omega arith))
+    rw z (entered-of part entries es e (omega arith))
 
-module _ {code subject entries : List ℕ} {at top current made : ℕ} (m : Midway code subject entries at top current made) (w : 7 < getD code at 0) where
+module _ {code part entries : List ℕ} {at top current made : ℕ} (m : Midway code part entries at top current made) (w : 7 < getD code at 0) where
   pub begins-build : (m .ds ≡ []) × T (oneTerm (build (m .es) false 0 0 (m .rest) (0 ∷ [])))
   begins-build = none-left (m .ds) (m .es) (m .g) (m .rest) (builds-of (m .rest) (getD code at 0) (matching (m .ds) (m .es) (m .g)) (program-first code at (length code) (m .rest) (m .inside) (omega arith) (m .here)) w (m .checked))
 
-  pub build-state : stateOf m ≡ state [] (entered subject entries (m .es)) [] 0 []
-  build-state = ap (λ (ds : List ℕ). state (inLine ds (m .node) (terms current (drop top subject))) (entered subject entries (m .es)) [] 0 []) (begins-build .0)
+  pub build-state : stateOf m ≡ state [] (entered part entries (m .es)) [] 0 []
+  build-state = ap (λ (ds : List ℕ). state (inLine ds (m .node) (terms current (drop top part))) (entered part entries (m .es)) [] 0 []) (begins-build .0)
 
-  terms-are : (e : ℕ) → e < made → entryOf (entered subject entries (m .es)) e ≡ front (drop (getD entries (made - 1 - e) 0) subject)
+  terms-are : (e : ℕ) → e < made → entryOf (entered part entries (m .es)) e ≡ front (drop (getD entries (made - 1 - e) 0) part)
   terms-are e l =
       let n = m .count in
-      entered-of subject entries (m .es) e (omega arith) ∙ ap (λ (n : ℕ). front (drop (getD entries (n - 1 - e) 0) subject)) n
+      entered-of part entries (m .es) e (omega arith) ∙ ap (λ (n : ℕ). front (drop (getD entries (n - 1 - e) 0) part)) n
 
-  pub ready : (c : Program) → run c (front subject) ≡ exec (m .rest) (stateOf m) → Ready code subject entries c at made
+  -- no term is current: the top is behind the subject's words
+  top-behind : top ≡ 2 * nodes (front part)
+  top-behind = walking-ended (m .walking) (let d = ap (λ (ds : List ℕ). length ds) (begins-build .0) in let k = m .depths in omega arith)
+
+  pub ready : (c : Program) → run c (front part) ≡ exec (m .rest) (stateOf m) → Ready code part entries c at made
   ready c e = record {
     rest = m .rest;
-    env = entered subject entries (m .es);
+    env = entered part entries (m .es);
     es = m .es;
     inside = m .inside;
     here = m .here;
@@ -173,13 +175,13 @@ module _ {code subject entries : List ℕ} {at top current made : ℕ} (m : Midw
     checked = begins-build .1;
     ok = m .agrees .1;
     few = m .few;
-    count = entries-length Any (m .es) (entered subject entries (m .es)) (m .agrees .1) ∙ m .count;
+    count = entries-length Any (m .es) (entered part entries (m .es)) (m .agrees .1) ∙ m .count;
     terms = terms-are;
     stands = λ e l.
         let s = m .stands (made - 1 - e) (omega arith) in
         (s .node, s .place-is, s .here ∙ ap some (sym (terms-are e l)));
   }
 
-pub going-build : {code subject entries : List ℕ} {at top current made : ℕ} → Going code subject entries at top current made → 7 < getD code at 0
-    → Comes code subject entries (matched.Build at made)
-going-build g w = record { means = λ c e. ready (g .midway) w c (g .goes c e) }
+pub going-build : {code part entries : List ℕ} {at top current made : ℕ} → Going code part entries at top current made → 7 < getD code at 0
+    → Comes code part entries (matched.Build at made top)
+going-build g w = record { means = λ c e. (ready (g .midway) w c (g .goes c e), top-behind (g .midway) w) }

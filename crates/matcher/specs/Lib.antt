@@ -1,2 +1,2 @@
-pub mod Midway
 pub mod Ready
+pub mod Midway

@@ -1,5 +1,6 @@
-// The match part of a run (document 01; 004, section 4.2), for code that passes and an accepted subject. In prefix order the current terms are
-// consecutive: the top starts at a word place of the subject, and there are so many of them. An entry is the word place of its subterm.
+// The match part of a run (document 01; 004, section 4.2), for code that passes and an accepted subject. The subject is handed on as a part of a
+// table: it stands at the front, and where it ends need not be known. In prefix order the current terms are consecutive up to its end: the top starts
+// at a word place of the part, and there are so many of them. An entry is the word place of its subterm.
 use documents::Refusal;
 use documents::op::CHECK;
 use documents::op::EQI;
@@ -20,10 +21,8 @@ ghost use mathlib.Core.Bool.{true};
 ghost use Prim.Native.Nat.{_≤_, _<_, _^_};
 ghost use lib.ListN.{length, getD};
 ghost use Rattle.documents.specs.Passing.{passes};
-ghost use Rattle.documents.specs.Numbers.{answered, subjectIn};
-ghost use Rattle.tables.specs.Parts.{front};
 ghost use Rattle.matcher.specs.Midway.{Midway, Steps, entriesAfter, madeAfter};
-ghost use Rattle.matcher.specs.Ready.{Comes};
+ghost use Rattle.matcher.specs.Ready.{Begins, Comes};
 
 // Where the next instruction stands, where the top starts then, and how many terms are current; or that the match fails.
 pub enum Stepped {
@@ -31,16 +30,17 @@ pub enum Stepped {
     Refused(Refusal),
 }
 
-// Where the build part begins, and how many entries there are; or that the match fails.
+// Where the build part begins, how many entries there are, and how many words the subject has; or that the match fails.
 pub enum Matched {
-    Build(usize, usize),
+    Build(usize, usize, usize),
     Refused(Refusal),
 }
 
-// From the subject as the one current term to the first build instruction. The entries are left in the lent table, the newest last.
-pub fn match_part(code: &[u32], subject: &[u32], entries: &mut [u32]) -> Matched
-    requires { ⌜ (passes (now code) ≡ true) × (subjectIn (now subject) ≡ answered (front (now subject))) × (length (now entries) ≡ 16) ⌝ }
-    ensures { λ r. ⌜ Comes (now (code .entry)) (now (subject .entry)) (now (entries .exit)) r ⌝ }
+// From the subject as the one current term to the first build instruction, where none is current: the top has come to the subject's end. The entries
+// are left in the lent table, the newest last.
+pub fn match_part(code: &[u32], part: &[u32], entries: &mut [u32]) -> Matched
+    requires { ⌜ (passes (now code) ≡ true) × Begins (now part) × (length (now entries) ≡ 16) ⌝ }
+    ensures { λ r. ⌜ Comes (now (code .entry)) (now (part .entry)) (now (entries .exit)) r ⌝ }
 {
     let mut at: usize = 0;
     let mut top: usize = 0;
@@ -49,9 +49,9 @@ pub fn match_part(code: &[u32], subject: &[u32], entries: &mut [u32]) -> Matched
     loop {
         let op = code[at];
         if EQI < op {
-            return Matched::Build(at, made);
+            return Matched::Build(at, made, top);
         }
-        let Stepped::To(next, place, terms) = step(code, at, subject, top, current, entries, made)
+        let Stepped::To(next, place, terms) = step(code, at, part, top, current, entries, made)
         else {
             return Matched::Refused(Refusal::MatchFails);
         };
@@ -78,97 +78,92 @@ pub fn enter(entries: &mut [u32], made: usize, op: u32, top: usize) -> usize
 pub fn step(
     code: &[u32],
     at: usize,
-    subject: &[u32],
+    part: &[u32],
     top: usize,
     current: usize,
     entries: &[u32],
     made: usize,
 ) -> Stepped
-    requires { ⌜ Midway (now code) (now subject) (now entries) at top current made × (getD (now code) at 0 ≤ 7) ⌝ }
-    ensures { λ r. ⌜ Steps (now (code .entry)) (now (subject .entry)) (now (entries .entry)) at top current made r ⌝ }
+    requires { ⌜ Midway (now code) (now part) (now entries) at top current made × (getD (now code) at 0 ≤ 7) ⌝ }
+    ensures { λ r. ⌜ Steps (now (code .entry)) (now (part .entry)) (now (entries .entry)) at top current made r ⌝ }
 {
     let op = code[at];
     if op == IS {
-        if subject[top] != FIRST_SYMBOL + code[at + 1] {
+        if part[top] != FIRST_SYMBOL + code[at + 1] {
             return Stepped::Refused(Refusal::MatchFails);
         }
-        if subject[top + 1] != code[at + 2] {
+        if part[top + 1] != code[at + 2] {
             return Stepped::Refused(Refusal::MatchFails);
         }
         return Stepped::To(at + 3, top + 2, current - 1 + code[at + 2] as usize);
     }
     if op == ISABST {
-        if subject[top] != ABSTRACTION {
+        if part[top] != ABSTRACTION {
             return Stepped::Refused(Refusal::MatchFails);
         }
         return Stepped::To(at + 1, top + 2, current);
     }
     if op == NEXT {
-        return Stepped::To(at + 1, top + skip(&subject[top..]), current - 1);
+        return Stepped::To(at + 1, top + skip(&part[top..]), current - 1);
     }
     if op == SET {
         return Stepped::To(at + 1, top, current);
     }
-    test(code, at, subject, top, current, entries, made)
+    test(code, at, part, top, current, entries, made)
 }
 
 // CHECK, EQVAR, EQIMM and EQI leave the current terms as they are.
 fn test(
     code: &[u32],
     at: usize,
-    subject: &[u32],
+    part: &[u32],
     top: usize,
     current: usize,
     entries: &[u32],
     made: usize,
 ) -> Stepped
-    requires { ⌜ Midway (now code) (now subject) (now entries) at top current made × (3 ≤ getD (now code) at 0) × (getD (now code) at 0 ≤ 7) × (getD (now code) at 0 ≡ 4 → ⊥) ⌝ }
-    ensures { λ r. ⌜ Steps (now (code .entry)) (now (subject .entry)) (now (entries .entry)) at top current made r ⌝ }
+    requires { ⌜ Midway (now code) (now part) (now entries) at top current made × (3 ≤ getD (now code) at 0) × (getD (now code) at 0 ≤ 7) × (getD (now code) at 0 ≡ 4 → ⊥) ⌝ }
+    ensures { λ r. ⌜ Steps (now (code .entry)) (now (part .entry)) (now (entries .entry)) at top current made r ⌝ }
 {
     let op = code[at];
     if op == CHECK {
         let end = at + 2 + code[at + 1] as usize;
-        if !check(&subject[top..], &code[at + 2..end]) {
+        if !check(&part[top..], &code[at + 2..end]) {
             return Stepped::Refused(Refusal::MatchFails);
         }
         return Stepped::To(end, top, current);
     }
     if op == EQVAR {
-        if subject[top] != code[at + 1] {
+        if part[top] != code[at + 1] {
             return Stepped::Refused(Refusal::MatchFails);
         }
         return Stepped::To(at + 2, top, current);
     }
-    compare(code, at, subject, top, current, entries, made)
+    compare(code, at, part, top, current, entries, made)
 }
 
 // EQIMM and EQI: the top against an entry.
 fn compare(
     code: &[u32],
     at: usize,
-    subject: &[u32],
+    part: &[u32],
     top: usize,
     current: usize,
     entries: &[u32],
     made: usize,
 ) -> Stepped
-    requires { ⌜ Midway (now code) (now subject) (now entries) at top current made × (6 ≤ getD (now code) at 0) × (getD (now code) at 0 ≤ 7) ⌝ }
-    ensures { λ r. ⌜ Steps (now (code .entry)) (now (subject .entry)) (now (entries .entry)) at top current made r ⌝ }
+    requires { ⌜ Midway (now code) (now part) (now entries) at top current made × (6 ≤ getD (now code) at 0) × (getD (now code) at 0 ≤ 7) ⌝ }
+    ensures { λ r. ⌜ Steps (now (code .entry)) (now (part .entry)) (now (entries .entry)) at top current made r ⌝ }
 {
     let old = entries[made - 1 - code[at + 1] as usize] as usize;
     if code[at] == EQIMM {
-        if !identical(&subject[old..], &subject[top..]) {
+        if !identical(&part[old..], &part[top..]) {
             return Stepped::Refused(Refusal::MatchFails);
         }
         return Stepped::To(at + 2, top, current);
     }
     let end = at + 4 + 2 * code[at + 3] as usize;
-    if !same(
-        &subject[old..],
-        &subject[top..],
-        code[at + 2],
-        &code[at + 4..end],
-    ) {
+    if !same(&part[old..], &part[top..], code[at + 2], &code[at + 4..end]) {
         return Stepped::Refused(Refusal::MatchFails);
     }
     Stepped::To(end, top, current)

@@ -85,9 +85,9 @@ module _ {code subject work : List ℕ} (b : Begun code subject work) {entries :
       let k : ComesTo code subject entries (programOf code (b .passed)) (matched.Refused w) = rw e at comes-to in
       record { long = refl; says = run-fails code subject work result (b .long) (b .passed) (b .accepted) (k .1) }
 
-  module _ {at made : ℕ} (e : r ≡ matched.Build at made) where
+  module _ {at made words : ℕ} (e : r ≡ matched.Build at made words) where
     pub entries-few : made ≤ 16
-    entries-few = let k : ComesTo code subject entries (programOf code (b .passed)) (matched.Build at made) = rw e at comes-to in k .few
+    entries-few = let k : ComesTo code subject entries (programOf code (b .passed)) (matched.Build at made words) = rw e at comes-to in k .0 .few
 
     -- the part of the table that is lent has as many words as there are entries
     pub entries-lent : length entries ≡ 16 → made ≡ length (take made entries)
@@ -100,5 +100,5 @@ module _ {code subject work : List ℕ} (b : Begun code subject work) {entries :
       made = made;
       enough = l;
       these = refl;
-      ready = λ d p. let k : ComesTo code subject entries d (matched.Build at made) = rw e at (c .means d p) in k;
+      ready = λ d p. let k : ComesTo code subject entries d (matched.Build at made words) = rw e at (c .means d p) in k .0;
     }

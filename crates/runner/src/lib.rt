@@ -77,7 +77,7 @@ fn rewrite(code: &[u32], subject: &[u32], work: &mut [u32], result: &mut [u32]) 
     ensures { λ r. ⌜ Applied (now (code .entry)) (now (subject .entry)) (now (work .entry)) (now (work .exit)) (now (result .entry)) (now (result .exit)) r ⌝ }
 {
     let mut entries = [0u32; MOST_ENTRIES];
-    let Matched::Build(at, made) = match_part(code, subject, &mut entries) else {
+    let Matched::Build(at, made, _) = match_part(code, subject, &mut entries) else {
         return Ran::Refused(Refusal::MatchFails);
     };
     build(code, at, subject, &entries[..made], work, result)

@@ -38,6 +38,7 @@ use Rattle.checker.proofs.Matching.{not-passed}
 use Rattle.matcher.specs.declared.Stepped.{Stepped}
 use Rattle.matcher.specs.declared.Stepped.the-variants as stepped
 use Rattle.matcher.specs.Midway.{Any, inLine, entered, Midway, stateOf, entriesAfter, madeAfter, Moves, Fails, Steps}
+use Rattle.matcher.proofs.Parts.{begins-whole}
 use Rattle.matcher.proofs.Whole.{midway-start, start-is, start-rest, begins-build, build-state}
 use Rattle.watcher.specs.declared.Watched.the-variants as watched
 use Rattle.watcher.specs.Watching.{asWatched}
@@ -98,12 +99,14 @@ pub record Following (code subject entries : List ℕ) (i at top current made le
 
 pub following-from : (code subject entries : List ℕ) (i : ℕ) → passes code ≡ true → subjectIn subject ≡ answered (front subject) → length entries ≡ 16
     → Following code subject entries i 0 0 1 0 i
-following-from code subject entries i p a r = record {
-  midway = midway-start code subject entries p a r;
-  goes = λ c e.
-      ap (λ (σ : State). exec (first i c) σ) (sym (start-is code subject entries p a r))
-      ∙ ap (λ (d : Program). exec (first i d) (stateOf (midway-start code subject entries p a r))) (sym (start-rest code subject entries p a r c e));
-}
+following-from code subject entries i p a r =
+    let b = begins-whole subject a in
+    record {
+      midway = midway-start code subject entries p b r;
+      goes = λ c e.
+          ap (λ (σ : State). exec (first i c) σ) (sym (start-is code subject entries p b r))
+          ∙ ap (λ (d : Program). exec (first i d) (stateOf (midway-start code subject entries p b r))) (sym (start-rest code subject entries p b r c e));
+    }
 
 module _ {code subject entries : List ℕ} {i at top owed made left : ℕ} (f : Following code subject entries i at top owed made left) where
   following-on : {entries′ : List ℕ} {made′ p top′ owed′ : ℕ} → Moves (f .midway) entries′ made′ p top′ owed′ → 0 < left → Following code subject entries′ i p top′ owed′ made′ (left - 1)

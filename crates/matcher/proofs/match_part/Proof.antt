@@ -9,10 +9,10 @@ use Rattle.matcher.proofs.match_part.Statement.{statement}
 use Rattle.matcher.proofs.match_part.Tie as tie
 
 abbrev Inv-loop : tie.InvT-loop
-Inv-loop code subject entries₀ at₀ top₀ current₀ made₀ entries at top current made = Going code subject entries at top current made
+Inv-loop code part entries₀ at₀ top₀ current₀ made₀ entries at top current made = Going code part entries at top current made
 
 abbrev μ-loop : tie.MeasureT-loop
-μ-loop code subject entries₀ at₀ top₀ current₀ made₀ entries at top current made = length code - at
+μ-loop code part entries₀ at₀ top₀ current₀ made₀ entries at top current made = length code - at
 
 pub match-part-spec : {M : Type 1} → statement M
 match-part-spec =

@@ -1,5 +1,6 @@
 -- `runner::rewrite`: the match fails, or leaves the entries and the place of the build part to `build`.
 use mathlib.Core.Path.{refl}
+use Rattle.matcher.proofs.Parts.{begins-whole}
 use Rattle.runner.proofs.Applying.{match-fails, entries-few, entries-lent, building-from}
 use borrow.Author.Needs.{needs}
 use Rattle.runner.proofs.rewrite.Statement.{statement}
@@ -10,7 +11,7 @@ rewrite-spec =
     tie.close
     (tie.spec
     (λ c. search needs)
-    (λ c κs. (c .before .before .before .before .before .pre .passed, c .before .before .before .before .before .pre .accepted, refl))
+    (λ c κs. (c .before .before .before .before .before .pre .passed, begins-whole _ (c .before .before .before .before .before .pre .accepted), refl))
     (λ c. search needs)
     (λ c. search needs)
     (λ c. match-fails (c .before .before .before .before .before .before .before .before .before .pre) (c .before .before .before .match-part .ensures) (c .enum-told .given .1))
