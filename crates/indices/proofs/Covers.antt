@@ -17,7 +17,7 @@ use Rattle.indices.specs.Sets.{has, members, inserted, gathered, full}
 clash : {A : Type 0} {b : Bool} → b ≡ false → b ≡ true → A
 clash p q = let z : true ≡ false = sym q ∙ p in never (cc)
 
-none-there : (i : ℕ) → has 0 i ≡ false
+pub none-there : (i : ℕ) → has 0 i ≡ false
 none-there i =
     let y : 0 * 2 ^ i ≡ 0 = omega arith in
     let z : 0 / 2 ^ i ≡ 0 = ap (λ (n : ℕ). n / 2 ^ i) (sym y) ∙ shl-shr 0 i in
@@ -68,7 +68,7 @@ one-bit k i =
         let q : 2 ^ k / 2 ^ i ≡ 0 = small (2 ^ k / 2 ^ i) (2 ^ i) (omega arith) in
         rw (q, ne-eqb k i n)
 
-or-bit : (m n i : ℕ) → has (bitOr m n) i ≡ has m i || has n i
+pub or-bit : (m n i : ℕ) → has (bitOr m n) i ≡ has m i || has n i
 or-bit m n i = rw (or-shr m n i) (go (m / 2 ^ i) (n / 2 ^ i))
   where
     bits : (x y : ℕ) → x < 2 → y < 2 → eqb (max x y) 1 ≡ eqb x 1 || eqb y 1
@@ -86,7 +86,7 @@ or-bit m n i = rw (or-shr m n i) (go (m / 2 ^ i) (n / 2 ^ i))
         let e : bitOr x y % 2 ≡ max (x % 2) (y % 2) = omega arith in
         rw e (bits (x % 2) (y % 2) (omega arith) (omega arith))
 
-insert-bit : (m k i : ℕ) → has (inserted m k) i ≡ has m i || eqb k i
+pub insert-bit : (m k i : ℕ) → has (inserted m k) i ≡ has m i || eqb k i
 unfolding inserted
 insert-bit m k i = or-bit m (2 ^ k) i ∙ ap (λ b. has m i || b) (one-bit k i)
 

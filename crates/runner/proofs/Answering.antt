@@ -1,19 +1,17 @@
 -- What a run comes to: 01's order of refusals, one law for each way out.
 use mathlib.Core.Path.{_≡_, sym, ap, _∙_}
-use Prim.Native.Nat.{ℕ, _+_, _*_, _/_, _≤_, _<_, min}
+use Prim.Native.Nat.{ℕ, suc, _+_, _*_, _/_, _≤_, _<_, min}
 use native.Mathlib.Omega.{arith}
-use mathlib.Core.Bool.{Bool, true, false}
+use mathlib.Core.Bool.{true}
 use mathlib.Core.List.{List, [], _∷_, _++_}
-use lib.Dec.{leb}
+use lib.Dec.{leb, leb·suc-suc}
 use lib.ListN.{length, drop}
 use lib.Seq.{sets-eq}
 use borrow.Author.Tests.{le-leb, lt-leb}
 use Rattle.documents.specs.declared.Refusal.{Refusal}
-use Rattle.documents.specs.declared.Refusal.the-variants.{DoesNotPass, MatchFails, ResultTooLarge, ResultTooDeep, ResultIndexTooLarge, WorkingTableShort}
-use Rattle.documents.specs.Limits.{indexLimit}
-use Rattle.documents.specs.Lists.{every}
-use Rattle.documents.specs.Terms.{one, Term}
-use Rattle.documents.specs.Tables.{tableOf, indices}
+use Rattle.documents.specs.declared.Refusal.the-variants.{DoesNotPass, MatchFails, WorkingTableShort}
+use Rattle.documents.specs.Terms.{Term}
+use Rattle.documents.specs.Tables.{tableOf, nodes, depth}
 use Rattle.documents.specs.Instructions.{Program}
 use Rattle.documents.specs.Machine.{Entry, state, done, fails, run, finished}
 use Rattle.documents.specs.Passing.{passes}
@@ -30,14 +28,12 @@ use Rattle.checker.specs.declared.Checked.{Checked}
 use Rattle.checker.specs.declared.Checked.the-variants as checked
 use Rattle.checker.specs.Matched.{verdict}
 use Rattle.checker.proofs.Matching.{not-passed}
-use Rattle.trees.specs.Trees.{Tree, nodesOf, depthOf, reachOf, wordsOf}
-use Rattle.trees.proofs.Made.{Told}
+use Rattle.writer.specs.Written.{Wrote}
+use Rattle.builder.specs.Weighing.{weighedFor}
+use Rattle.builder.proofs.Readied.{programOf}
+use Rattle.builder.proofs.Weighing.{weighed-small}
 use Rattle.runner.specs.declared.Ran.the-variants as ran
 use Rattle.runner.specs.Answers.{given}
-
--- the program of code that passes
-abbrev pub programOf : (code : List ℕ) → passes code ≡ true → Program
-programOf code p = passing-obeys code (T-of _ p) .0
 
 -- ---- up to the result
 
@@ -77,51 +73,30 @@ module _ (code subject work result : List ℕ) where
             → runAnswer work result (resultFor (length result) u) ≡ runCall code subject work result
         run-makes env u e = sym (runs-are ∙ rw e)
 
--- ---- the result
+-- ---- the result: weighed at the root, with all the room that the result table has
 
-module _ (work result : List ℕ) {ent : ℕ → Term} {p : Tree one} {u : Term} (t : Told ent p u) where
-  pub made-large : min 4096 (length result / 2) < nodesOf ent p → given (ran.Refused ResultTooLarge) (zeros work) result ≡ runAnswer work result (resultFor (length result) u)
-  unfolding resultFor
-  made-large h = rw (t .size, lt-leb (nodesOf ent p) (min 4096 (length result / 2)) h)
+weighed-result : (room : ℕ) (u : Term) → weighedFor (min 4096 (room / 2)) 1 u ≡ resultFor room u
+unfolding weighedFor resultFor
+weighed-result room u = let n : 1 + depth u ≡ suc (depth u) = omega arith in rw (n, leb·suc-suc (depth u) 64)
 
-  module _ (small : nodesOf ent p ≤ min 4096 (length result / 2)) where
-    pub made-deep : 64 < depthOf ent p → given (ran.Refused ResultTooDeep) (zeros work) result ≡ runAnswer work result (resultFor (length result) u)
-    unfolding resultFor
-    made-deep h = rw (t .size, le-leb (nodesOf ent p) (min 4096 (length result / 2)) small, t .deep, lt-leb (depthOf ent p) 64 h)
+module _ (work result : List ℕ) (u : Term) where
+  pub result-refused : (w : Refusal) → weighedFor (min 4096 (length result / 2)) 1 u ≡ refused w
+      → given (ran.Refused w) (zeros work) result ≡ runAnswer work result (resultFor (length result) u)
+  result-refused w e = ap (runAnswer work result) (sym e ∙ weighed-result (length result) u)
 
-    module _ (shallow : depthOf ent p ≤ 64) where
-      indices-so : (q : Bool) → leb (reachOf ent p) 65536 ≡ q → every (λ x. leb x indexLimit) (indices u) ≡ q
-      indices-so q e = t .indices-fit (let d = t .deep in omega arith) ∙ e
+  pub result-written : {result′ : List ℕ} → weighedFor (min 4096 (length result / 2)) 1 u ≡ answered (tableOf u) → Wrote result result′ 0 (2 * nodes u) (tableOf u)
+      → given (ran.Words (2 * nodes u)) (zeros work) result′ ≡ runAnswer work result (resultFor (length result) u)
+  result-written {result′} e w =
+      told-so (2 * nodes u) (length (tableOf u)) result′ (atFront result (tableOf u)) (sym (length-tableOf u)) (w .behind ∙ sym placed)
+      ∙ ap (runAnswer work result) (sym e ∙ weighed-result (length result) u)
+    where
+      told-so : (m n : ℕ) (d e : List ℕ) → m ≡ n → d ≡ e → given (ran.Words m) (zeros work) d ≡ given (ran.Words n) (zeros work) e
+      told-so m n d e p q = rw (p, q)
 
-      pub made-far : 65536 < reachOf ent p → given (ran.Refused ResultIndexTooLarge) (zeros work) result ≡ runAnswer work result (resultFor (length result) u)
-      unfolding resultFor
-      made-far h = rw (
-        t .size,
-        le-leb (nodesOf ent p) (min 4096 (length result / 2)) small,
-        t .deep,
-        le-leb (depthOf ent p) 64 shallow,
-        indices-so false (lt-leb (reachOf ent p) 65536 h),
-      )
+      size : 0 + length (tableOf u) ≡ 2 * nodes u
+      size = let l = length-tableOf u in omega arith
 
-      pub made-fits : {result′ : List ℕ} → reachOf ent p ≤ 65536 → result′ ≡ wordsOf ent p 0 [] ++ drop (2 * nodesOf ent p) result
-          → given (ran.Words (2 * nodesOf ent p)) (zeros work) result′ ≡ runAnswer work result (resultFor (length result) u)
-      unfolding resultFor
-      made-fits {result′} h e = rw (
-        t .size,
-        le-leb (nodesOf ent p) (min 4096 (length result / 2)) small,
-        t .deep,
-        le-leb (depthOf ent p) 64 shallow,
-        indices-so true (le-leb (reachOf ent p) 65536 h),
-      ) (told-so (2 * nodesOf ent p) (length (tableOf u)) result′ (atFront result (tableOf u)) (sym size) (e ∙ sym placed))
-        where
-          size : length (tableOf u) ≡ 2 * nodesOf ent p
-          size = length-tableOf u ∙ ap (λ (k : ℕ). 2 * k) (t .size)
-
-          told-so : (m n : ℕ) (d e : List ℕ) → m ≡ n → d ≡ e → given (ran.Words m) (zeros work) d ≡ given (ran.Words n) (zeros work) e
-          told-so m n d e p q = rw (p, q)
-
-          placed : atFront result (tableOf u) ≡ wordsOf ent p 0 [] ++ drop (2 * nodesOf ent p) result
-          placed =
-              let z : 0 + length (tableOf u) ≡ 2 * nodesOf ent p = let k = size in omega arith in
-              sets-eq (tableOf u) result 0 (omega arith)
-              ∙ (ap (λ (k : ℕ). tableOf u ++ drop k result) z ∙ ap (λ (ws : List ℕ). ws ++ drop (2 * nodesOf ent p) result) (t .words))
+      placed : atFront result (tableOf u) ≡ tableOf u ++ drop (2 * nodes u) result
+      placed =
+          sets-eq (tableOf u) result 0 (let l = size in let h = weighed-small (min 4096 (length result / 2)) 1 u (tableOf u) e in omega arith)
+          ∙ ap (λ (k : ℕ). tableOf u ++ drop k result) size

@@ -22,8 +22,10 @@ use Rattle.matcher.specs.declared.Matched.the-variants as matched
 use Rattle.matcher.specs.Ready.{ComesTo, Comes}
 use Rattle.runner.specs.declared.Ran.{Ran}
 use Rattle.runner.specs.declared.Ran.the-variants as ran
-use Rattle.runner.specs.Answers.{given, Applied, Begun, Building}
-use Rattle.runner.proofs.Answering.{programOf, run-fails}
+use Rattle.builder.specs.Weighing.{Begun, Building}
+use Rattle.builder.proofs.Readied.{programOf}
+use Rattle.runner.specs.Answers.{given, Applied}
+use Rattle.runner.proofs.Answering.{run-fails}
 
 -- ---- Tables of one length
 

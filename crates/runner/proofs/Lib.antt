@@ -1,5 +1,3 @@
 pub mod Answering
-pub mod Readied
 pub mod Measuring
 pub mod Applying
-pub mod Cleared

@@ -1,33 +1,26 @@
 // The run call (document 01): a result is measured before a word of it is written, so that a refusal leaves the result table as it was. The working
 // table holds a word for each word of the code, then one for each node of the subject; afterwards it holds nothing.
+use builder::Weighed;
+use builder::clear;
+use builder::put_before;
+use builder::room;
+use builder::weigh;
 use checker::Checked;
 use checker::check;
 use documents::Refusal;
 use instructions::limit::MOST_ENTRIES;
 use links::NODES_AT;
-use links::link::depth;
 use matcher::Matched;
 use matcher::match_part;
-use measurer::Measured;
-use measurer::measure;
 use survey::survey;
 use tables::accept::Sized;
-use tables::node::MOST_DEPTH;
-use tables::node::PLAN_NODES;
-use writer::write;
 ghost use mathlib.Core.Path.{_≡_};
-ghost use Prim.Native.Nat.{_/_, min};
-ghost use Rattle.documents.specs.Calls.{zeros, runCall};
-ghost use Rattle.runner.specs.Answers.{given, Applied, Begun, Building};
+ghost use Rattle.documents.specs.Calls.{runCall};
+ghost use Rattle.builder.specs.Weighing.{Begun, Building};
+ghost use Rattle.runner.specs.Answers.{given, Applied};
 
 // The words of a working table: those of code and of a subject's nodes, at most.
 pub const WORKING_WORDS: usize = 8192;
-
-// Indices reach one further than the highest of them, which may be 65,535.
-const MOST_REACH: u32 = 65536;
-
-// Open LAMBDAs, and nodes above: a result is at most 64 deep.
-const OPENED: usize = 128;
 
 // The words of the result, or a refusal.
 pub enum Ran {
@@ -43,16 +36,6 @@ pub fn run(code: &[u32], subject: &[u32], work: &mut [u32], result: &mut [u32]) 
     let answer = apply(code, subject, work, result);
     clear(work);
     answer
-}
-
-fn clear(work: &mut [u32])
-    ensures { λ _. ⌜ now (work .exit) ≡ zeros (now (work .entry)) ⌝ }
-{
-    let mut at: usize = 0;
-    while at < work.len() {
-        work[at] = 0;
-        at += 1;
-    }
 }
 
 // All but that the working table is left as it is: 16, 11, and the subject's refusals.
@@ -96,41 +79,12 @@ fn build(
     ensures { λ r. ⌜ Applied (now (code .entry)) (now (subject .entry)) (now (work .entry)) (now (work .exit)) (now (result .entry)) (now (result .exit)) r ⌝ }
 {
     let most = room(result.len());
-    let end = code.len();
-    let Measured::Of(nodes, reach, root) = measure(code, at, end, subject, entries, work, most)
-    else {
-        return Ran::Refused(Refusal::ResultTooLarge);
-    };
-    if (MOST_DEPTH as u32) < depth(work[root]) {
-        return Ran::Refused(Refusal::ResultTooDeep);
+    let weighed = weigh(code, at, subject, entries, work, most, 1);
+    match weighed {
+        Weighed::Refused(why) => Ran::Refused(why),
+        Weighed::Of(nodes, root) => {
+            put_before(code, subject, entries, work, result, root, 2 * nodes);
+            Ran::Words((2 * nodes) as u32)
+        }
     }
-    if MOST_REACH < reach {
-        return Ran::Refused(Refusal::ResultIndexTooLarge);
-    }
-    let mut opened = [0u32; OPENED];
-    write(
-        code,
-        subject,
-        entries,
-        work,
-        result,
-        &mut opened,
-        root,
-        2 * nodes,
-        0,
-        0,
-        0,
-        end,
-    );
-    Ran::Words((2 * nodes) as u32)
-}
-
-// How many nodes a result may have, for a result table of so many words.
-fn room(words: usize) -> usize
-    ensures { λ r. ⌜ r ≡ min 4096 (words / 2) ⌝ }
-{
-    if (PLAN_NODES as usize) < words / 2 {
-        return PLAN_NODES as usize;
-    }
-    words / 2
 }

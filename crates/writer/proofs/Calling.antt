@@ -12,7 +12,7 @@ use Rattle.writer.specs.Written.{Writes, Room, nstack}
 use Rattle.writer.specs.Wanted.{Ready, TreeAt}
 
 -- no LAMBDA is open
-nstack-empty : (off : ℕ) (o : List ℕ) → nstack off 0 o ≡ []
+pub nstack-empty : (off : ℕ) (o : List ℕ) → nstack off 0 o ≡ []
 unfolding nstack
 nstack-empty off o = refl
 

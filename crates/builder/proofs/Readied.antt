@@ -2,7 +2,7 @@
 use mathlib.Core.Path.{_≡_, refl, sym, ap, _∙_, fun-ext}
 use Prim.Native.Nat.{ℕ, zero, suc, _-_, _*_, _≤_, _<_}
 use native.Mathlib.Omega.{arith}
-use mathlib.Core.Bool.{false, _&&_, cond}
+use mathlib.Core.Bool.{true, false, _&&_, cond}
 use mathlib.Core.Option.{some, Option·some-injective}
 use mathlib.Core.List.{List, [], _∷_}
 use lib.Dec.{T, leb, ltb}
@@ -14,7 +14,7 @@ use Rattle.documents.specs.Terms.{one, Var, Term}
 use Rattle.documents.specs.Tables.{Fits, nodes, subterm}
 use Rattle.documents.specs.Instructions.{IS, ISABST, NEXT, CHECK, SET, EQVAR, EQIMM, EQI, CELL, LAMBDA, ADBMAL, PUSHVAR, PUSHIMM, PUSHI, End, _▸_, Program, programFrom, programIn}
 use Rattle.documents.specs.Machine.{Entry, entry, state, done, run}
-use Rattle.documents.specs.Passing.{Slot, oneTerm, build, andThenHolds, obeys}
+use Rattle.documents.specs.Passing.{Slot, oneTerm, build, andThenHolds, obeys, passes}
 use Rattle.documents.proofs.Lists.{case, on, off, T-of, of-and}
 use Rattle.documents.proofs.Numbers.{Held, subjectIn-held}
 use Rattle.documents.proofs.Tables.{length-tableOf}
@@ -32,8 +32,11 @@ use Rattle.links.proofs.Safe.{checked-safe}
 use Rattle.links.proofs.Keyed.{tree-here}
 use Rattle.matcher.specs.Ready.{Ready}
 use Rattle.measurer.specs.Measuring.{Sequence}
-use Rattle.runner.specs.Answers.{Building}
-use Rattle.runner.proofs.Answering.{programOf}
+use Rattle.builder.specs.Weighing.{Ends, Building}
+
+-- the program of code that passes
+abbrev pub programOf : (code : List ℕ) → passes code ≡ true → Program
+programOf code p = passing-obeys code (T-of _ p) .0
 
 -- ---- The build part does not begin the code: no term is current there
 
@@ -162,6 +165,12 @@ module _ {code : List ℕ} {at : ℕ} {subject entries work : List ℕ} (b : Bui
   pub goes : run program (front subject) ≡ done (state [] (readied .env) (term ∷ []) 0 [])
   unfolding term
   goes = readied .goes ∙ makes .runs
+
+  -- whatever program the code is
+  pub ends : Ends code subject term
+  ends c e =
+      let q : program ≡ c = Option·some-injective program c (sym (passing-obeys code (T-of _ (b .begun .passed)) .1) ∙ e) in
+      (readied .env, ap (λ (d : Program). run d (front subject)) (sym q) ∙ goes)
 
   pub told : Told (entryAt subject entries) (treeAt code at (length code)) term
   unfolding term

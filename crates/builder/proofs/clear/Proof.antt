@@ -1,11 +1,11 @@
--- `runner::clear`: zeros so far, and the rest as it was.
+-- `builder::clear`: zeros so far, and the rest as it was.
 use Prim.Native.Nat.{_-_}
 use native.Mathlib.Omega.{arith}
 use lib.ListN.{length}
-use Rattle.runner.proofs.Cleared.{Clearing, clearing-from, clearing-on, clearing-done}
+use Rattle.builder.proofs.Cleared.{Clearing, clearing-from, clearing-on, clearing-done}
 use borrow.Author.Needs.{needs}
-use Rattle.runner.proofs.clear.Statement.{statement}
-use Rattle.runner.proofs.clear.Tie as tie
+use Rattle.builder.proofs.clear.Statement.{statement}
+use Rattle.builder.proofs.clear.Tie as tie
 
 abbrev Inv-loop : tie.InvT-loop
 Inv-loop work₀ at₀ work at = Clearing work₀ work at
