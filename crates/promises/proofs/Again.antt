@@ -63,7 +63,7 @@ module _ (code subject working result : List ℕ) where
   run-again c t p z =
       let room = asked z .0 in
       let (u, env, e, f) = passed-ends code subject c t p
-          (λ f. let q = ap (λ (a : RunAnswer). a .number) (run-fails code subject c t p working result room f) in absurd (omega arith)) in
+      (λ f. let q = ap (λ (a : RunAnswer). a .number) (run-fails code subject c t p working result room f) in absurd (omega arith)) in
       let q = run-ends code subject c t p working result room u env e in
       let (ws, r) = not-refused working result (resultFor (length result) u) (sym (ap (λ (a : RunAnswer). a .number) q) ∙ z) in
       let whole : runCall code subject working result ≡ runAnswer working result (answered ws) = q ∙ ap (runAnswer working result) r in
