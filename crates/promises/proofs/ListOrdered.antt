@@ -12,7 +12,7 @@ use Rattle.documents.specs.Lists.{every}
 use Rattle.documents.specs.Terms.{Term}
 use Rattle.documents.specs.Tables.{termIn}
 use Rattle.documents.specs.Instructions.{Program}
-use Rattle.documents.specs.Numbers.{Answer, answered, refused, with, codeIn, subjectIn, resultFor}
+use Rattle.documents.specs.Numbers.{numberOf, Answer, answered, refused, with, codeIn, subjectIn, resultFor}
 use Rattle.documents.proofs.Lists.{never, both-true, every-append}
 use Rattle.rewriting.specs.Rewrites.{plans}
 use Rattle.rewriting.specs.RuleTable.{Listed, whole, cut, listed, allIn, rulesIn}
@@ -61,7 +61,9 @@ module _ (rules subject : List ℕ) (number : ℕ) where
         not-both (leb (length (listed rules)) ruleLimit) (leb number rewriteLimit),
         first-unless (leb listWorkingWords working) WorkingTableShort (with (allIn (listed rules)) (λ cs. with (subjectIn subject) (λ t. rewrites cs t number room))),
       )
-      (ap (λ (n : ℕ). cond (not (leb (length (listed rules)) ruleLimit) || not (leb number rewriteLimit)) 37 (cond (not (leb listWorkingWords working)) 16 n))
+      (ap (λ (n : ℕ).
+      cond (not (leb (length (listed rules)) ruleLimit) || not (leb number rewriteLimit)) (numberOf ListTooLong)
+      (cond (not (leb listWorkingWords working)) (numberOf WorkingTableShort) n))
       (rules-order (subjectOrder subject ++ sequenceOrder room) (listed rules) _ (λ cs e.
       subject-order (λ t. rewrites cs t number room) (sequenceOrder room) subject (λ t d.
       rw (e, d) (plans-order room (plans cs number t) _ (λ ws. refl))))))

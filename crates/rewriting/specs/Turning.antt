@@ -84,6 +84,6 @@ pub record Rewrite (rules : List Rule) (t t′ : Term) : Type 0 where
   pub firstRule : (i : ℕ) (l r : Term) (v : Val) → i < index → TurnsAt rules t node i l r v → ⊥
   pub whole : t′ ≡ replace t node (metasubst val right)
 
--- no valuation turns the left side of some rule into some subterm
+-- no valuation turns the left side of any rule into any subterm
 abbrev pub NoMatch : List Rule → Term → Type 0
 NoMatch rules t = (n i : ℕ) (l r : Term) (v : Val) → TurnsAt rules t n i l r v → ⊥
