@@ -1,7 +1,7 @@
 #!/usr/bin/env python3
 """promises.py [--write]: holds docs/PROMISES.md against the tree.
 
-Every theorem of crates/promises/specs/Promises.antt and every must-fail edit is named there, and nothing that is not; every other name in
+Every theorem of crates/promises/specs and every must-fail edit is named there, and nothing that is not; every other name in
 backquotes stands somewhere in the crates; every line that the last table quotes stands in that file at that number. --write puts the
 numbers right where the quoted line stands once in its file."""
 import pathlib
@@ -15,13 +15,15 @@ wrong = []
 
 
 def theorems():
-    """The fields of the records that are theorems, as Record.field."""
-    found, record = [], None
-    for line in (root / "crates/promises/specs/Promises.antt").read_text().split("\n"):
-        if m := re.match(r"pub record (\w+)", line):
-            record = m[1]
-        elif record in ("Demand1", "Demand2", "Demand3", "Tight") and (m := re.match(r"  pub (\w+) :", line)):
-            found.append(f"{record}.{m[1]}")
+    """The fields of the records without parameters, which are theorems, as Record.field; those with parameters are premises and conclusions."""
+    found = []
+    for file in ("Promises", "ListPromises"):
+        record = None
+        for line in (root / f"crates/promises/specs/{file}.antt").read_text().split("\n"):
+            if m := re.match(r"pub record (\w+)( : Type 0 where)?", line):
+                record = m[2] and m[1]
+            elif record and (m := re.match(r"  pub (\w+) :", line)):
+                found.append(f"{record}.{m[1]}")
     return found
 
 
@@ -32,7 +34,7 @@ def hold(what, there, named):
 
 named_theorems, named_edits, names, record = set(), set(), set(), None
 for token in re.findall(r"`([^`]+)`", text):
-    if m := re.fullmatch(r"(Demand\d|Tight)?\.(\w+)", token):
+    if m := re.fullmatch(r"((?:List)?Demand\d|ListDone|Tight)?\.(\w+)", token):
         record = m[1] or record
         named_theorems.add(f"{record}.{m[2]}")
     elif re.fullmatch(r"\w+/\w+", token) and not token.startswith("tests/"):

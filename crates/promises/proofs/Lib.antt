@@ -1,4 +1,7 @@
+pub mod Again
 pub mod Agreeing
+pub mod ListOrdered
+pub mod ListPromises
 pub mod Ordered
 pub mod Passed
 pub mod Promises

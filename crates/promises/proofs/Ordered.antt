@@ -1,7 +1,7 @@
 -- Demand 1's order: the number of each call is the first in its list that is due. A law for each thing that goes in (a table, a subject, code):
 -- its refusals come first, and where none of them is due the rest of the list decides over what was read. That an instruction has no step, or
 -- that no term is finished, cannot be: the code has passed.
-use mathlib.Core.Path.{_≡_, refl, ap, _∙_}
+use mathlib.Core.Path.{_≡_, refl, sym, ap, _∙_}
 use mathlib.Core.Logic.{inl, inr}
 use Prim.Native.Nat.{ℕ, _*_, _/_, min}
 use mathlib.Core.Bool.{Bool, true, false, not, _&&_, cond}
@@ -26,25 +26,29 @@ use Rattle.documents.proofs.Lists.{case}
 use Rattle.safety.specs.Finishes.{Finishes}
 use Rattle.safety.proofs.NeverStuck.{passing-obeys, obeying-finishes}
 use Rattle.safety.proofs.Counts.{Progress, Comes, progress-of-passing, first-counted}
-use Rattle.promises.specs.Order.{due, Due, firstDue, over, missing, of, ofBoth, tableOrder, subjectOrder, readOrder, compileOrder, checkOrder, runOrder, watchOrder, failed, resultBreaks}
+use Rattle.promises.specs.Order.{due, Due, firstDue, over, missing, of, ofBoth, tableOrder, subjectOrder, readOrder, compileOrder, checkOrder, runOrder, watchOrder, failed, resultBreaks, planOrder}
 
 -- an answer's number
-abbrev numbered : {A : Type 0} → Answer A → ℕ
+abbrev pub numbered : {A : Type 0} → Answer A → ℕ
 numbered (answered a) = 0
 numbered (refused r) = numberOf r
 
-first-unless : {A : Type 0} (q : Bool) (r : Refusal) (a : Answer A) → numbered (unless q r a) ≡ cond (not q) (numberOf r) (numbered a)
+pub first-unless : {A : Type 0} (q : Bool) (r : Refusal) (a : Answer A) → numbered (unless q r a) ≡ cond (not q) (numberOf r) (numbered a)
 first-unless true r a = refl
 first-unless false r a = refl
 
-with-with : {A B C : Type 0} (a : Answer A) (f : A → Answer B) (g : B → Answer C) → with (with a f) g ≡ with a (λ x. with (f x) g)
+pub with-with : {A B C : Type 0} (a : Answer A) (f : A → Answer B) (g : B → Answer C) → with (with a f) g ≡ with a (λ x. with (f x) g)
 with-with (answered x) f g = refl
 with-with (refused r) f g = refl
+
+with-answered : {A : Type 0} (a : Answer A) → with a answered ≡ a
+with-answered (answered x) = refl
+with-answered (refused r) = refl
 
 -- ---- What goes in
 
 module _ {A : Type 0} (f : Term → Answer A) (rest : List Due) where
-  table-order : (limit : ℕ) (ws : List ℕ) → ((t : Term) → termIn ws ≡ some t → numbered (f t) ≡ firstDue rest)
+  pub table-order : (limit : ℕ) (ws : List ℕ) → ((t : Term) → termIn ws ≡ some t → numbered (f t) ≡ firstDue rest)
       → numbered (with (tableIn limit ws) f) ≡ firstDue (tableOrder limit ws ++ rest)
   unfolding tableIn
   table-order limit ws h = go (leb (length ws) (2 * limit)) (termIn ws) refl
@@ -61,7 +65,7 @@ module _ {A : Type 0} (f : Term → Answer A) (rest : List Due) where
       go true (some t) e = shallow t e (leb (depth t) depthLimit)
 
 module _ {A : Type 0} (f : Term → Answer A) (rest : List Due) (ws : List ℕ) (h : (t : Term) → termIn ws ≡ some t → numbered (f t) ≡ firstDue rest) where
-  subject-order : numbered (with (subjectIn ws) f) ≡ firstDue (subjectOrder ws ++ rest)
+  pub subject-order : numbered (with (subjectIn ws) f) ≡ firstDue (subjectOrder ws ++ rest)
   unfolding subjectIn
   subject-order =
       rw (with-with (tableIn planLimit ws) (λ t. unless (isEmpty (metas t)) MetavariableInSubject (answered t)) f)
@@ -73,7 +77,7 @@ module _ {A : Type 0} (f : Term → Answer A) (rest : List Due) (ws : List ℕ) 
       go t e false = refl
 
 module _ {A : Type 0} (f : Program → Answer A) (rest : List Due) (code : List ℕ) (h : (c : Program) → programIn code ≡ some c → T (obeys c) → numbered (f c) ≡ firstDue rest) where
-  code-order : numbered (with (codeIn code) f) ≡ firstDue (due 11 (not (passes code)) ∷ rest)
+  pub code-order : numbered (with (codeIn code) f) ≡ firstDue (due 11 (not (passes code)) ∷ rest)
   unfolding codeIn
   code-order =
       case (λ q. numbered (with (unless q DoesNotPass (orRefuse (programIn code) DoesNotPass)) f) ≡ cond (not q) 11 (firstDue rest)) (passes code)
@@ -148,15 +152,18 @@ check-order code = go (passes code)
     go true = refl
     go false = refl
 
-module _ (room : ℕ) where
+module _ {A : Type 0} (f : List ℕ → Answer A) (rest : List Due) (room : ℕ) (u : Term) (h : numbered (f (tableOf u)) ≡ firstDue rest) where
   -- 13, 14, 15
-  result-order : (u : Term) → numbered (resultFor room u)
-      ≡ cond (over (min planLimit (room / 2)) (nodes u)) 13 (cond (over depthLimit (depth u)) 14 (cond (not (every (λ x. leb x indexLimit) (indices u))) 15 0))
+  pub result-order : numbered (with (resultFor room u) f) ≡ firstDue (planOrder room u ++ rest)
   unfolding resultFor
-  result-order u =
-      first-unless (leb (nodes u) (min planLimit (room / 2))) ResultTooLarge _
-      ∙ rw (first-unless (leb (depth u) depthLimit) ResultTooDeep (unless (every (λ x. leb x indexLimit) (indices u)) ResultIndexTooLarge (answered (tableOf u))), first-unless (every (λ x. leb x indexLimit) (indices u)) ResultIndexTooLarge (answered (tableOf u)))
-      refl
+  result-order = go (leb (nodes u) (min planLimit (room / 2))) (leb (depth u) depthLimit) (every (λ x. leb x indexLimit) (indices u))
+    where
+      go : (a b c : Bool) → numbered (with (unless a ResultTooLarge (unless b ResultTooDeep (unless c ResultIndexTooLarge (answered (tableOf u))))) f)
+          ≡ cond (not a) 13 (cond (not b) 14 (cond (not c) 15 (firstDue rest)))
+      go false b c = refl
+      go true false c = refl
+      go true true false = refl
+      go true true true = h
 
 module _ (code subject : List ℕ) (working result : ℕ) where
   -- 12, 13, 14, 15
@@ -173,7 +180,7 @@ module _ (code subject : List ℕ) (working result : ℕ) where
 
   ended-order : (c : Program) (t : Term) → programIn code ≡ some c → termIn subject ≡ some t → Finishes c t → numbered (onward c t) ≡ firstDue ended
   ended-order c t e d (inl f) = rw (e, d, f) refl
-  ended-order c t e d (inr (u, env, free, r)) = rw (e, d, r) (result-order result u)
+  ended-order c t e d (inr (u, env, free, r)) = rw (e, d, r) (ap numbered (sym (with-answered (resultFor result u))) ∙ result-order answered [] result u refl)
 
   runs-order : numbered (runs code subject working result) ≡ firstDue (runOrder code subject working result)
   unfolding runs

@@ -4,7 +4,7 @@ use mathlib.Core.Logic.{inl, inr}
 use Prim.Native.Nat.{ℕ, _≤_}
 use native.Mathlib.Omega.{arith}
 use mathlib.Core.Bool.{Bool, true, false, cond}
-use mathlib.Core.Option.{some}
+use mathlib.Core.Option.{some, Option·some-injective}
 use mathlib.Core.List.{List, [], _∷_}
 use lib.Dec.{T}
 use lib.ListN.{length}
@@ -19,7 +19,8 @@ use Rattle.documents.specs.Machine.{Entry, State, state, done, fails, noStep, r
 use Rattle.documents.specs.Passing.{obeys, passes}
 use Rattle.documents.specs.Numbers.{answered, refused, codeIn, resultFor}
 use Rattle.documents.specs.Calls.{checkCall, runAnswer, runs, runCall, counts, watchAnswer, watches, watchCall}
-use Rattle.documents.proofs.Lists.{never, on}
+use Rattle.documents.proofs.Lists.{never, on, T-of}
+use Rattle.documents.proofs.Numbers.{unless-is, orRefuse-is}
 use Rattle.safety.specs.Finishes.{Finishes}
 use Rattle.safety.proofs.NeverStuck.{passing-obeys, obeying-finishes}
 use Rattle.safety.proofs.Counts.{Progress, Comes, progress-of-passing, first-counted}
@@ -37,18 +38,18 @@ pub passes-check : (code : List ℕ) → T (passes code) → checkCall code ≡ 
 unfolding checkCall
 passes-check code p = rw (on (passes code) p)
 
+pub code-passed : (code : List ℕ) (c : Program) → codeIn code ≡ answered c → (checkCall code ≡ 0) × (programIn code ≡ some c)
+unfolding codeIn
+code-passed code c e = let a = unless-is (passes code) _ _ c e in (passes-check code (T-of (passes code) (a .0)), orRefuse-is (programIn code) _ c (a .1))
+
 pub passed-reads : (code : List ℕ) → checkCall code ≡ 0 → (c : Program) × (programIn code ≡ some c)
 passed-reads code e = let o = passing-obeys code (check-passes code e) in (o .0, o .1)
 
 module _ (code subject : List ℕ) (c : Program) (t : Term) (p : Passed code subject c t) where
-  passed-obeys : T (obeys c)
+  pub passed-obeys : T (obeys c)
   passed-obeys =
       let o = passing-obeys code (check-passes code (p .checks)) in
-      let e : o .0 ≡ c = some-is (sym (o .1) ∙ p .program) in
-      rw e at (o .2)
-    where
-      some-is : {x y : Program} → some x ≡ some y → x ≡ y
-      some-is e = cc
+      rw (Option·some-injective (o .0) c (sym (o .1) ∙ p .program)) at (o .2)
 
   passed-code : codeIn code ≡ answered c
   unfolding codeIn

@@ -6,6 +6,7 @@ use Rattle.promises.proofs.Ordered.{read-order, compile-order, check-or
 use Rattle.promises.proofs.Refused.{one-number, not-done, read-leaves, compile-leaves, run-leaves, watch-leaves, run-zeros}
 use Rattle.promises.proofs.Passed.{passed-reads, passed-steps, passed-ends, run-fails, run-ends, watch-steps, watch-fails, watch-ends}
 use Rattle.promises.proofs.Translated.{code-passes, code-fits, compiles, ran-matches, only-one, ran-leaves, ran-limits}
+use Rattle.promises.proofs.Again.{run-given, run-again}
 use Rattle.promises.proofs.Agreeing.{reads-agree, compiles-agree, checks-agree, runs-agree, watches-agree}
 
 pub demand-1 : Demand1
@@ -35,7 +36,7 @@ demand-2 = record {
 }
 
 pub demand-3 : Demand3
-demand-3 = record { reads = passed-reads; steps = passed-steps; ends = passed-ends; passes = code-passes }
+demand-3 = record { reads = passed-reads; steps = passed-steps; ends = passed-ends; passes = code-passes; given = run-given; again = run-again }
 
 pub tight : Tight
 tight = record {

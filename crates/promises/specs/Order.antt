@@ -1,21 +1,24 @@
--- 'Order' (document 01): the numbers of each call in the order in which they are looked for, each with what makes it due. What is asked of a
--- term is not due of a table that holds none, and so on: then an earlier number is.
+-- 'Order' (document 01; request 1 at the end): the numbers of each call in the order in which they are looked for, each with what makes it due. What
+-- is asked of a term is not due of a table that holds none, and so on: then an earlier number is.
 use Prim.Native.Nat.{ℕ, _*_, _/_, min}
-use mathlib.Core.Bool.{Bool, true, false, not, _&&_, cond}
+use mathlib.Core.Bool.{Bool, true, false, not, _&&_, _||_, cond}
 use mathlib.Core.Option.{Option, none, some}
 use mathlib.Core.List.{List, [], _∷_, _++_}
 use lib.Dec.{leb}
 use lib.ListN.{length}
 use Rattle.documents.specs.Limits.{sideLimit, planLimit, depthLimit, metavariableLimit, workingWords, indexLimit}
-use Rattle.documents.specs.Lists.{every, isEmpty}
+use Rattle.documents.specs.Lists.{every, isEmpty, andThen}
 use Rattle.documents.specs.Terms.{Term}
 use Rattle.documents.specs.Tables.{termIn, nodes, depth, indices}
 use Rattle.documents.specs.Rules.{metas, simple, isSymbol, closed, contains}
-use Rattle.documents.specs.Instructions.{words, programIn}
+use Rattle.documents.specs.Instructions.{Program, words, programIn}
 use Rattle.documents.specs.Machine.{State, Outcome, done, fails, noStep, run, first, made}
 use Rattle.documents.specs.Translation.{symbolTable, compile}
 use Rattle.documents.specs.Passing.{passes}
 use Rattle.documents.specs.Calls.{fileIn}
+use Rattle.rewriting.specs.Rewrites.{plans}
+use Rattle.rewriting.specs.RuleTable.{Listed, whole, cut, listed}
+use Rattle.rewriting.specs.ListCall.{ruleLimit, rewriteLimit, listWorkingWords}
 
 -- a number, and whether it is due
 pub data Due : Type 0 where
@@ -96,3 +99,50 @@ runOrder code subject working result =
 abbrev pub watchOrder : List ℕ → List ℕ → ℕ → List Due
 watchOrder code subject i =
     due 11 (not (passes code)) ∷ (subjectOrder subject ++ (due 12 (ofBoth (programIn code) (termIn subject) (λ c t. failed (run (first i c) t))) ∷ []))
+
+-- ---- Request 1: a list of rules, run to the end
+
+-- a bad rule: its code does not pass, or it is cut short by the end
+abbrev pub bad : Listed → Bool
+bad (whole code) = not (passes code)
+bad cut = true
+
+-- '11 for the first bad rule'
+abbrev pub rulesOrder : List Listed → List Due
+rulesOrder [] = []
+rulesOrder (r ∷ rs) = due 11 (bad r) ∷ rulesOrder rs
+
+-- the programs of rules that are all whole
+abbrev pub programsIn : List Listed → Option (List Program)
+programsIn [] = some []
+programsIn (whole code ∷ rs) = andThen (programIn code) (λ c. andThen (programsIn rs) (λ cs. some (c ∷ cs)))
+programsIn (cut ∷ rs) = none
+
+-- 13, 14, 15 of a whole plan, for a result table of so many words
+abbrev pub planOrder : ℕ → Term → List Due
+planOrder result t =
+    due 13 (over (min planLimit (result / 2)) (nodes t))
+    ∷ due 14 (over depthLimit (depth t))
+    ∷ due 15 (not (every (λ x. leb x indexLimit) (indices t)))
+    ∷ []
+
+-- 'the first plan that breaks one decides'
+abbrev pub plansOrder : ℕ → List Term → List Due
+plansOrder result [] = []
+plansOrder result (t ∷ ts) = planOrder result t ++ plansOrder result ts
+
+-- what is asked of rules and a subject, where they are there
+abbrev pub ofThese : Option (List Program) → Option Term → (List Program → Term → List Due) → List Due
+ofThese none t f = []
+ofThese (some cs) none f = []
+ofThese (some cs) (some t) f = f cs t
+
+-- '37 over 32 rules, a cut one counted, or 1,000 rewrites, 16, then 11 for the first bad rule, subject 2, 1, 3, 4, then 13, 14, 15', for working and
+-- result tables of so many words
+abbrev pub listOrder : List ℕ → List ℕ → ℕ → ℕ → ℕ → List Due
+listOrder rules subject number working result =
+    due 37 (over ruleLimit (length (listed rules)) || over rewriteLimit number)
+    ∷ due 16 (not (leb listWorkingWords working))
+    ∷ (rulesOrder (listed rules)
+    ++ (subjectOrder subject
+    ++ ofThese (programsIn (listed rules)) (termIn subject) (λ cs t. plansOrder result (plans cs number t))))

@@ -8,7 +8,7 @@ use mathlib.Core.Bool.{not}
 use mathlib.Core.Option.{some}
 use mathlib.Core.List.{List, [], _∷_}
 use lib.Dec.{T, leb}
-use lib.ListN.{length, replicate}
+use lib.ListN.{length, take, replicate}
 use Rattle.documents.specs.declared.Refusal.{Refusal}
 use Rattle.documents.specs.Limits.{planLimit, depthLimit, codeLimit, workingWords, indexLimit}
 use Rattle.documents.specs.Lists.{every, member}
@@ -123,6 +123,12 @@ pub record Demand3 : Type 0 where
       → (u : Term) × (env : List Entry) × (run c t ≡ done (state [] env (u ∷ []) 0 [])) × T (every (member (freevars t)) (freevars u))
   -- 'Code compiled from an accepted rule always passes.'
   pub passes : (left right : List ℕ) (l r : Term) → ruleIn left right ≡ answered (rule l r) → checkCall (codeOf l r) ≡ 0
+  -- Where a run is done, the code has passed and the subject was accepted,
+  pub given : (code subject working result : List ℕ) → runCall code subject working result .number ≡ 0 → (c : Program) × (t : Term) × Passed code subject c t
+  -- and what it leaves is an accepted subject again: the machine's finished term, with no name, count or metavariable that a table cannot hold.
+  pub again : (code subject working result : List ℕ) (c : Program) (t : Term) → Passed code subject c t → runCall code subject working result .number ≡ 0
+      → (u : Term) × (env : List Entry) × (run c t ≡ done (state [] env (u ∷ []) 0 []))
+      × (subjectIn (take (runCall code subject working result .words) (runCall code subject working result .result)) ≡ answered u)
 
 -- ---- How tight the contracts are
 

@@ -161,16 +161,26 @@ pub context-of : {s : Sort} (t : Tm s) (n : ℕ) (u : Term) → subterm t n ≡ 
 context-of (Var x) zero u e = at-root (Var x) u e
 context-of (Var x) (suc n) u e = never (cc)
 context-of (Sym s ts) zero u e = at-root (Sym s ts) u e
-context-of (Sym s ts) (suc n) u e = let a = context-of ts n u e in record { context = InSym s (a .context); place = ap suc (a .place); whole = ap (Sym s) (a .whole) }
+context-of (Sym s ts) (suc n) u e =
+    let a = context-of ts n u e in
+    record { context = InSym s (a .context); place = ap suc (a .place); whole = ap (Sym s) (a .whole) }
 context-of (Meta z ts) zero u e = at-root (Meta z ts) u e
-context-of (Meta z ts) (suc n) u e = let a = context-of ts n u e in record { context = InMeta z (a .context); place = ap suc (a .place); whole = ap (Meta z) (a .whole) }
+context-of (Meta z ts) (suc n) u e =
+    let a = context-of ts n u e in
+    record { context = InMeta z (a .context); place = ap suc (a .place); whole = ap (Meta z) (a .whole) }
 context-of (Abst t) zero u e = at-root (Abst t) u e
-context-of (Abst t) (suc n) u e = let a = context-of t n u e in record { context = InAbst (a .context); place = ap suc (a .place); whole = ap Abst (a .whole) }
+context-of (Abst t) (suc n) u e =
+    let a = context-of t n u e in
+    record { context = InAbst (a .context); place = ap suc (a .place); whole = ap Abst (a .whole) }
 context-of Nil n u e = never (cc)
 context-of (Cons t ts) n u e =
     in-cons t ts n u e
-    (λ h e. let a = context-of t n u e in record { context = First (a .context) ts; place = a .place; whole = ap (λ (x : Term). Cons x ts) (a .whole) })
-    (λ m p e. let a = context-of ts m u e in record { context = Later t (a .context); place = ap (λ (i : ℕ). nodes t + i) (a .place) ∙ sym p; whole = ap (Cons t) (a .whole) })
+    (λ h e.
+    let a = context-of t n u e in
+    record { context = First (a .context) ts; place = a .place; whole = ap (λ (x : Term). Cons x ts) (a .whole) })
+    (λ m p e.
+    let a = context-of ts m u e in
+    record { context = Later t (a .context); place = ap (λ (i : ℕ). nodes t + i) (a .place) ∙ sym p; whole = ap (Cons t) (a .whole) })
 
 -- what holds of every context holds of every subterm
 pub by-context {ℓ} : {s : Sort} (P : Tm s → ℕ → Term → Type ℓ) → ((k : Context s) (u : Term) → P (plug k u) (node k) u)
@@ -188,7 +198,9 @@ module _ {s : Sort} (t : Tm s) (n : ℕ) (u : Term) (e : subterm t n ≡ some u)
   subterm-ends = by-context (λ t n u. n + nodes u ≤ nodes t) (λ k u. omega (arith, nodes-plug k u, node-around k)) t n u e
 
   pub replaced-nodes : (w : Term) → nodes (replace t n w) ≡ nodes t - nodes u + nodes w
-  replaced-nodes w = by-context (λ t n u. nodes (replace t n w) ≡ nodes t - nodes u + nodes w) (λ k u. rw (replace-plug k u w) (omega (arith, nodes-plug k u, nodes-plug k w))) t n u e
+  replaced-nodes w =
+      by-context (λ t n u. nodes (replace t n w) ≡ nodes t - nodes u + nodes w)
+      (λ k u. rw (replace-plug k u w) (omega (arith, nodes-plug k u, nodes-plug k w))) t n u e
 
   pub replaced-subterm : (w : Term) → subterm (replace t n w) n ≡ some w
   replaced-subterm w = by-context (λ t n u. subterm (replace t n w) n ≡ some w) (λ k u. rw (replace-plug k u w) (subterm-plug k w)) t n u e
@@ -210,7 +222,8 @@ subterm-at (Abst t) (suc n) h = subterm-at t n (omega arith)
 subterm-at Nil n h = absurd (omega arith)
 subterm-at (Cons t ts) n h = go (ltb n (nodes t)) refl (subterm-at t n) (subterm-at ts (n - nodes t))
   where
-    go : (q : Bool) → ltb n (nodes t) ≡ q → (n < nodes t → (u : Term) × (subterm t n ≡ some u)) → (n - nodes t < nodes ts → (u : Term) × (subterm ts (n - nodes t) ≡ some u))
+    go : (q : Bool) → ltb n (nodes t) ≡ q → (n < nodes t → (u : Term) × (subterm t n ≡ some u))
+        → (n - nodes t < nodes ts → (u : Term) × (subterm ts (n - nodes t) ≡ some u))
         → (u : Term) × (cond q (subterm t n) (subterm ts (n - nodes t)) ≡ some u)
     go true q f g = f (ltb-true n (nodes t) q)
     go false q f g = let k = ltb-false n (nodes t) q in g (omega arith)
@@ -230,7 +243,8 @@ subterm-within t m n u v e f h k =
 
 module _ (w : Term) where
   -- a node that ends before the place has the same subterm, whatever stands there
-  pub before-plug : {s : Sort} (k : Context s) (u : Term) (m : ℕ) (v : Term) → subterm (plug k u) m ≡ some v → m + nodes v ≤ node k → subterm (plug k w) m ≡ some v
+  pub before-plug : {s : Sort} (k : Context s) (u : Term) (m : ℕ) (v : Term) → subterm (plug k u) m ≡ some v → m + nodes v ≤ node k
+      → subterm (plug k w) m ≡ some v
   before-plug Here u m v e h = absurd (omega (arith, nodes-positive v))
   before-plug (InSym s k) u zero v e h = absurd (omega (arith, ap nodes (Option·some-injective _ _ e), node-inside k u))
   before-plug (InSym s k) u (suc m) v e h = before-plug k u m v e (omega arith)
@@ -255,6 +269,6 @@ module _ (w : Term) where
       (λ k u f h. rw (replace-plug k u w) (before-plug k u m v f h)) t n u e
 
 -- and the other way round: what ends before the place after the replacement stood there before
-pub before-replaced : {s : Sort} (t : Tm s) (n : ℕ) (u w : Term) → subterm t n ≡ some u → (m : ℕ) (v : Term) → subterm (replace t n w) m ≡ some v → m + nodes v ≤ n
-    → subterm t m ≡ some v
+pub before-replaced : {s : Sort} (t : Tm s) (n : ℕ) (u w : Term) → subterm t n ≡ some u → (m : ℕ) (v : Term) → subterm (replace t n w) m ≡ some v
+    → m + nodes v ≤ n → subterm t m ≡ some v
 before-replaced t n u w e m v f h = rw (← replaced-back t n u e w) (replaced-before u (replace t n w) n w (replaced-subterm t n u e w) m v f h)

@@ -56,7 +56,7 @@ pub no-rule : (rules : List Program) (u : Term) → byFirstRule rules u ≡ none
 no-rule [] u e i c q = never (cc)
 no-rule (d ∷ cs) u e i c q = go (made (run d u)) refl e (no-rule cs u) i q
   where
-    go : (o : Option Term) → made (run d u) ≡ o → orElse o (byFirstRule cs u) ≡ none → (byFirstRule cs u ≡ none → (i : ℕ) (c : Program) → getElem? cs i ≡ some c → made (run c u) ≡ none)
+    go : (o : Option Term) → made (run d u) ≡ o → orElse o (byFirstRule cs u) ≡ none → (byFirstRule cs u ≡ none → NoRule cs u)
         → (i : ℕ) → getElem? (d ∷ cs) i ≡ some c → made (run c u) ≡ none
     go none p e k zero q = let r : c ≡ d = cc in rw r p
     go none p e k (suc i) q = k e i c q
@@ -70,7 +70,8 @@ rule-no (c ∷ cs) u h = rw (h 0 c refl) (rule-no cs u (λ i d e. h (suc i) d e)
 pub rule-misses : (c : Program) (cs : List Program) (u : Term) → run c u ≡ fails → byFirstRule (c ∷ cs) u ≡ byFirstRule cs u
 rule-misses c cs u e = rw e
 
-pub rule-matches : (c : Program) (cs : List Program) (u w : Term) (env : List Entry) → run c u ≡ done (state [] env (w ∷ []) 0 []) → byFirstRule (c ∷ cs) u ≡ some w
+pub rule-matches : (c : Program) (cs : List Program) (u w : Term) (env : List Entry) → run c u ≡ done (state [] env (w ∷ []) 0 [])
+    → byFirstRule (c ∷ cs) u ≡ some w
 rule-matches c cs u w env e = rw e
 
 -- ---- Code that passes

@@ -92,7 +92,8 @@ subject-named subject t e = let h = subjectIn-held subject t e in named-of t (h 
 pub subterm-accepted : (t : Term) (n : ℕ) (u : Term) → subjectIn (tableOf t) ≡ answered t → subterm t n ≡ some u → subjectIn (tableOf u) ≡ answered u
 subterm-accepted t n u s e =
     let h = subjectIn-held (tableOf t) t s in
-    held-subjectIn u (subterm-fits t n u e (h .0 .fits)) (omega (arith, h .0 .small, subterm-ends t n u e)) (omega (arith, h .0 .shallow, subterm-depth t n u e))
+    held-subjectIn u (subterm-fits t n u e (h .0 .fits)) (omega (arith, h .0 .small, subterm-ends t n u e))
+    (omega (arith, h .0 .shallow, subterm-depth t n u e))
     (subterm-metas t n u e (h .1))
 
 -- a plan like that, within 13, 14 and 15

@@ -114,7 +114,8 @@ rules-obey rules cs e = all-obey (listed rules) cs e
 
 compiled-code : (l r : Term) (left right : List ℕ) → ruleIn left right ≡ answered (rule l r) → codeIn (words (compile l r)) ≡ answered (compile l r)
 unfolding codeIn
-compiled-code l r left right e = rw (on (passes (words (compile l r))) (compiled-passes left right l r (ruleIn-accepted left right l r e)), programIn-words (compile l r))
+compiled-code l r left right e =
+    rw (on (passes (words (compile l r))) (compiled-passes left right l r (ruleIn-accepted left right l r e)), programIn-words (compile l r))
 
 -- the codes of accepted rules
 pub compiled-rules : (rules : List Rule) → AllAccepted rules → rulesIn (ruleTable (codesOf rules)) ≡ answered (programsOf rules)

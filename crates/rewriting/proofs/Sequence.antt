@@ -75,11 +75,13 @@ module _ (rules : List Program) where
       go (some u) e k = ap (once rules) (last-some n t u e) ∙ k u (let l = ap length (plans-some n t u e) in omega arith)
 
   -- each plan but the first is the one before it, rewritten once
-  pub plans-once : (n : ℕ) (t : Term) (i : ℕ) (a b : Term) → getElem? (plans rules n t) i ≡ some a → getElem? (plans rules n t) (suc i) ≡ some b → once rules a ≡ some b
+  pub plans-once : (n : ℕ) (t : Term) (i : ℕ) (a b : Term) → getElem? (plans rules n t) i ≡ some a → getElem? (plans rules n t) (suc i) ≡ some b
+      → once rules a ≡ some b
   plans-once zero t i a b e f = never (cc)
   plans-once (suc n) t i a b e f = go (once rules t) refl (plans-once n) i e f
     where
-      go : (o : Option Term) → once rules t ≡ o → ((u : Term) (i : ℕ) (a b : Term) → getElem? (plans rules n u) i ≡ some a → getElem? (plans rules n u) (suc i) ≡ some b → once rules a ≡ some b)
+      go : (o : Option Term) → once rules t ≡ o
+          → ((u : Term) (i : ℕ) (a b : Term) → getElem? (plans rules n u) i ≡ some a → getElem? (plans rules n u) (suc i) ≡ some b → once rules a ≡ some b)
           → (i : ℕ) → getElem? (t ∷ fromNext o (plans rules n)) i ≡ some a → getElem? (fromNext o (plans rules n)) i ≡ some b → once rules a ≡ some b
       go none q k i e f = never (cc)
       go (some u) q k zero e f =
@@ -121,7 +123,8 @@ module _ (rules : List Program) where
     unfolding rewrites
     rewrites-none n t e = rw (plans-none n t e, e)
 
-    pub rewrites-some : (n : ℕ) (t u : Term) → once rules t ≡ some u → rewrites rules t (suc n) room ≡ with (resultFor room t) (λ ws. more 1 (rewrites rules u n room))
+    pub rewrites-some : (n : ℕ) (t u : Term) → once rules t ≡ some u
+        → rewrites rules t (suc n) room ≡ with (resultFor room t) (λ ws. more 1 (rewrites rules u n room))
     unfolding rewrites
     rewrites-some n t u e = rw (e, plans-behind n u) (go (resultFor room t) (plansFor room (u ∷ behind n u)))
       where
@@ -172,7 +175,8 @@ module _ (rules : List Program) (subject : Term) (number room : ℕ) where
     running-stops e =
         h .same
         ∙ ap (λ (n : ℕ). more made (rewrites rules t n room)) (omega arith)
-        ∙ ap (more made) (rewrites-zero rules room t ∙ ap (λ (a : Answer (List ℕ)). with a (λ ws. answered (rewritten ws 0 (isNone (once rules t))))) (h .keeps))
+        ∙ ap (more made) (rewrites-zero rules room t
+        ∙ ap (λ (a : Answer (List ℕ)). with a (λ ws. answered (rewritten ws 0 (isNone (once rules t))))) (h .keeps))
         ∙ ap (λ (n : ℕ). answered (rewritten (tableOf t) n (isNone (once rules t)))) (omega arith)
 
     module _ (u : Term) (e : once rules t ≡ some u) (l : made < number) where

@@ -187,7 +187,9 @@ pub subterm-metas : {s : Sort} (t : Tm s) (n : ℕ) (u : Term) → subterm t n �
 subterm-metas = by-context (λ t n u. metas t ≡ [] → metas u ≡ []) metas-in
 
 pub replaced-metas : {s : Sort} (t : Tm s) (n : ℕ) (u w : Term) → subterm t n ≡ some u → metas t ≡ [] → metas w ≡ [] → metas (replace t n w) ≡ []
-replaced-metas t n u w = by-context (λ t n u. metas t ≡ [] → metas w ≡ [] → metas (replace t n w) ≡ []) (λ k u e f. rw (replace-plug k u w) (metas-plug k u w e f)) t n u
+replaced-metas t n u w =
+    by-context (λ t n u. metas t ≡ [] → metas w ≡ [] → metas (replace t n w) ≡ [])
+    (λ k u e f. rw (replace-plug k u w) (metas-plug k u w e f)) t n u
 
 fits-in : {s : Sort} (k : Context s) (u : Term) → Fits (plug k u) → Fits u
 fits-in Here u h = h
@@ -213,7 +215,8 @@ replaced-fits t n u w = by-context (λ t n u. Fits t → Fits w → Fits (replac
 
 -- ---- Free variables
 
-free-plug : {s : Sort} (P : ℕ → Type 0) (k : Context s) (u w : Term) → ((Q : ℕ → Type 0) → AllFree Q u → AllFree Q w) → AllFree P (plug k u) → AllFree P (plug k w)
+free-plug : {s : Sort} (P : ℕ → Type 0) (k : Context s) (u w : Term) → ((Q : ℕ → Type 0) → AllFree Q u → AllFree Q w) → AllFree P (plug k u)
+    → AllFree P (plug k w)
 free-plug P Here u w h a = h P a
 free-plug P (InSym s k) u w h a = free-plug P k u w h a
 free-plug P (InMeta z k) u w h a = free-plug P k u w h a

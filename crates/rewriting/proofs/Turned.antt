@@ -1,4 +1,5 @@
--- Demand 2 of each rewrite of a subterm. By 004's theorems a rule's code makes w of a term without metavariables exactly when some valuation turns the
+-- What `once` is, over numbered nodes and rules (specs/Turning): by code from anybody it is what `atFirstNode` and `byFirstRule` were shown to be.
+-- Then demand 2 of each rewrite of a subterm. By 004's theorems a rule's code makes w of a term without metavariables exactly when some valuation turns the
 -- left side into it and the right side into w. So a rewrite is made exactly when some rule's left side is turned into some node's subterm, at
 -- the first such node and by the first such rule there.
 use mathlib.Core.Path.{_≡_, refl, sym, ap, _∙_}
@@ -22,10 +23,65 @@ use Rattle.kahrs.proofs.Plain.{metasubst-plain}
 use Rattle.compiled.proofs.Passes.{compiled-obeys}
 use Rattle.rewriting.specs.Rewrites.{byFirstRule, once}
 use Rattle.rewriting.specs.Replacing.{replace}
-use Rattle.rewriting.specs.Turning.{IsAccepted, AllAccepted, programsOf, TurnsAt, Rewrite, NoMatch}
+use Rattle.rewriting.specs.Turning.{RewriteBy, Normal, IsAccepted, AllAccepted, programsOf, TurnsAt, Rewrite, NoMatch}
 use Rattle.rewriting.proofs.FirstNode.{found, found-some, silent-none, none-silent}
 use Rattle.rewriting.proofs.Splicing.{subterm-metas, replaced-metas}
-use Rattle.rewriting.proofs.FirstRule.{by-rule, rule-by, no-rule, rule-no, AllObey}
+use Rattle.rewriting.proofs.FirstRule.{by-rule, rule-by, no-rule, rule-no, AllObey, obeys-at, made-none-fails}
+
+-- ---- By code from anybody
+
+none-or : (o : Option Term) → ((w : Term) → o ≡ some w → ⊥) → o ≡ none
+none-or none h = refl
+none-or (some w) h = absurd (h w refl)
+
+module _ (rules : List Program) (t : Term) where
+  rewrite-by-once : (t′ : Term) → once rules t ≡ some t′ → RewriteBy rules t t′
+  unfolding once
+  rewrite-by-once t′ e =
+      let d = found (byFirstRule rules) t t′ e in
+      let b = by-rule rules (d .old) (d .new) (d .answers) in
+      record {
+        node = d .place;
+        index = b .index;
+        new = d .new;
+        makes = record { old = d .old; program = b .program; there = d .there; listed = b .listed; makes = b .makes };
+        firstNode = λ n i w l m.
+            let q = no-rule rules (m .old) (d .first n (m .old) l (m .there)) i (m .program) (m .listed) in
+            never (cc (m .makes));
+        firstRule = λ i w l m.
+            let q = b .first i (m .program) l (m .listed) in
+            let o : m .old ≡ d .old = Option·some-injective (m .old) (d .old) (sym (m .there) ∙ d .there) in
+            never (cc (m .makes, ap (λ (u : Term). made (run (m .program) u)) o));
+        whole = d .whole;
+      }
+
+  once-by-rewrite : (t′ : Term) → RewriteBy rules t t′ → once rules t ≡ some t′
+  unfolding once
+  once-by-rewrite t′ w =
+      let m = w .makes in
+      found-some (byFirstRule rules) t t′ (record {
+        place = w .node;
+        old = m .old;
+        new = w .new;
+        there = m .there;
+        answers = rule-by rules (m .old) (w .new) (w .index) (m .program) (m .listed) (m .makes)
+            (λ i c l g. none-or (made (run c (m .old)))
+            (λ x e. w .firstRule i x l (record { old = m .old; program = c; there = m .there; listed = g; makes = e })));
+        first = λ n v l s. rule-no rules v
+            (λ i c g. none-or (made (run c v)) (λ x e. w .firstNode n i x l (record { old = v; program = c; there = s; listed = g; makes = e })));
+        whole = w .whole;
+      })
+
+  pub rewrite-by-exactly : (t′ : Term) → (once rules t ≡ some t′) ↔ RewriteBy rules t t′
+  rewrite-by-exactly t′ = (rewrite-by-once t′, once-by-rewrite t′)
+
+  -- where code passed, a rule that makes nothing has failed
+  pub normal-exactly : AllObey rules → (once rules t ≡ none) ↔ Normal rules t
+  unfolding once
+  normal-exactly h = (
+    λ e n i u c s g. made-none-fails c u (obeys-at rules i c h g) (no-rule rules u (none-silent (byFirstRule rules) t e n u s) i c g),
+    λ k. silent-none (byFirstRule rules) t (λ n u s. rule-no rules u (λ i c g. ap made (k n i u c s g))),
+  )
 
 -- ---- One rule
 
@@ -44,11 +100,7 @@ module _ (l r : Term) (h : CrsRule l r) where
         go (inr (v, val, q, y)) = let z : w ≡ metasubst v r = cc (ap made (y .1)) in (v, val, q, z)
 
     pub unturned-made : ((v : Val) → Valuation v → metasubst v l ≡ u → ⊥) → made (run (compile l r) u) ≡ none
-    unturned-made n = go (made (run (compile l r) u)) refl
-      where
-        go : (o : Option Term) → made (run (compile l r) u) ≡ o → o ≡ none
-        go none e = refl
-        go (some w) e = let (v, val, q, z) = made-turned w e in absurd (n v val q)
+    unturned-made n = none-or (made (run (compile l r) u)) (λ w e. let (v, val, q, z) = made-turned w e in n v val q)
 
 -- ---- Rules of a list
 
@@ -131,7 +183,8 @@ module _ (rules : List Rule) (h : AllAccepted rules) (t : Term) (p : metas t ≡
         old = u;
         new = metasubst (w .val) (w .right);
         there = e;
-        answers = rule-by (programsOf rules) u (metasubst (w .val) (w .right)) (w .index) (compile (w .left) (w .right)) (program-at rules (w .index) (w .left) (w .right) (w .turns .listed))
+        answers = rule-by (programsOf rules) u (metasubst (w .val) (w .right)) (w .index) (compile (w .left) (w .right))
+            (program-at rules (w .index) (w .left) (w .right) (w .turns .listed))
             (turned-made (w .left) (w .right) c (w .val) (w .turns .valuation))
             (λ j d g q. none-turned (w .node) j u e (λ l r v. w .firstRule j l r v g) d q);
         first = λ m v g q. rule-no (programsOf rules) v (λ j d. none-turned m j v q (λ l r y. w .firstNode m j l r y g) d);
@@ -148,7 +201,8 @@ module _ (rules : List Rule) (h : AllAccepted rules) (t : Term) (p : metas t ≡
   none-exactly = (
     λ e n i l r v z.
         turns-made n i l r v (metasubst v l) z (z .there)
-        (no-rule (programsOf rules) (metasubst v l) (none-silent (byFirstRule (programsOf rules)) t e n (metasubst v l) (z .there)) i (compile l r) (program-at rules i l r (z .listed))),
+        (no-rule (programsOf rules) (metasubst v l) (none-silent (byFirstRule (programsOf rules)) t e n (metasubst v l) (z .there))
+        i (compile l r) (program-at rules i l r (z .listed))),
     λ k. silent-none (byFirstRule (programsOf rules)) t (λ m v q. rule-no (programsOf rules) v (λ j d. none-turned m j v q (λ l r y. k m j l r y) d)),
   )
 
@@ -159,7 +213,8 @@ module _ (rules : List Rule) (h : AllAccepted rules) (t : Term) (p : metas t ≡
       ap metas (w .whole) ∙ replaced-metas t (w .node) _ _ (w .turns .there) p (metasubst-plain (w .val) (w .turns .valuation) (w .right))
 
 -- 'On the left side's metavariables there is only one.'
-pub turns-only-one : (rules : List Rule) → AllAccepted rules → (t : Term) (n i : ℕ) (l r : Term) (v w : Val) → TurnsAt rules t n i l r v → TurnsAt rules t n i l r w
+pub turns-only-one : (rules : List Rule) → AllAccepted rules → (t : Term) (n i : ℕ) (l r : Term) (v w : Val)
+    → TurnsAt rules t n i l r v → TurnsAt rules t n i l r w
     → (z k : ℕ) → T (among (metas l) (z, k)) → v z k ≡ w z k
 turns-only-one rules h t n i l r v w a b =
     let e = Option·some-injective (metasubst v l) (metasubst w l) (sym (a .there) ∙ b .there) in

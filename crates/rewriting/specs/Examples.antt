@@ -41,6 +41,13 @@ G t = Sym 5 (Cons t Nil)
 abbrev Z : Term
 Z = Meta 1 Nil
 
+-- a plan that rule B rewrites twice, and what it is after once
+abbrev twice : Term
+twice = App (Lam (Abst (App (Lam (Abst (Var 0))) (Var 0)))) (Var 7)
+
+abbrev left : Term
+left = App (Lam (Abst (Var 0))) (Var 7)
+
 abbrev code : Term → Term → List ℕ
 code l r = words (compile l r)
 
@@ -82,9 +89,9 @@ refusal n = n ∷ 0 ∷ 0 ∷ 0 ∷ []
 abbrev pub table : List Case
 table =
     -- rule B twice; once where the number is used up; never with number 0
-    gives (ruleTable (ruleB ∷ [])) (tableOf (App (Lam (Abst (App (Lam (Abst (Var 0))) (Var 0)))) (Var 7))) 1000 32 (doneWith (Var 7) 2 1)
-    ∷ gives (ruleTable (ruleB ∷ [])) (tableOf (App (Lam (Abst (App (Lam (Abst (Var 0))) (Var 0)))) (Var 7))) 1 32 (doneWith (App (Lam (Abst (Var 0))) (Var 7)) 1 0)
-    ∷ gives (ruleTable (ruleB ∷ [])) (tableOf (App (Lam (Abst (Var 0))) (Var 7))) 0 32 (doneWith (App (Lam (Abst (Var 0))) (Var 7)) 0 0)
+    gives (ruleTable (ruleB ∷ [])) (tableOf twice) 1000 32 (doneWith (Var 7) 2 1)
+    ∷ gives (ruleTable (ruleB ∷ [])) (tableOf twice) 1 32 (doneWith left 1 0)
+    ∷ gives (ruleTable (ruleB ∷ [])) (tableOf left) 0 32 (doneWith left 0 0)
     -- below the root, under an abstraction
     ∷ gives (ruleTable (ruleB ∷ [])) (tableOf (Abst (F (App (Lam (Abst (Var 1))) (Var 0))))) 5 32 (doneWith (Abst (F (Var 0))) 1 1)
     -- the first node goes before the first rule: F opens before G is dropped

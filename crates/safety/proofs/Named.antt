@@ -56,8 +56,8 @@ named-fits (Meta z ts) h e = absurd h
 named-fits (Abst t) h e = named-fits t h e
 named-fits Nil h e = tt
 named-fits (Cons t ts) h e =
-    let q : every (λ x. leb x indexLimit) (indices t) && every (λ x. leb x indexLimit) (indices ts) ≡ true = sym (every-append (λ x. leb x indexLimit) (indices t) (indices ts)) ∙ e in
-    let r = both-true (every (λ x. leb x indexLimit) (indices t)) (every (λ x. leb x indexLimit) (indices ts)) q in
+    let low : ℕ → Bool = λ x. leb x indexLimit in
+    let r = both-true (every low (indices t)) (every low (indices ts)) (sym (every-append low (indices t) (indices ts)) ∙ e) in
     (named-fits t (h .0) (r .0), named-fits ts (h .1) (r .1))
 
 -- ---- States
@@ -224,11 +224,13 @@ met-keeps false run D n x h σ τ g e = free-keeps (run (x - n)) D n x (λ a r. 
 
 push-keeps : {s : Sort} (run : ℕ → Option Action) (D n : ℕ) (t : Tm s) → BodiesKeep run → Named t → Keeps (push run D n t)
 push-keeps run D n (Var x) h k σ τ g e = met-keeps (ltb x n) run D n x h σ τ g e
-push-keeps run D n (Sym s ts) h k σ τ g e = keeps-then (push run D n ts) (cell (Sym s) (len ts)) (push-keeps run D n ts h (k .2)) (cell-keeps s (len ts) (k .0) (k .1)) σ τ g e
+push-keeps run D n (Sym s ts) h k σ τ g e =
+    keeps-then (push run D n ts) (cell (Sym s) (len ts)) (push-keeps run D n ts h (k .2)) (cell-keeps s (len ts) (k .0) (k .1)) σ τ g e
 push-keeps run D n (Meta z ts) h k σ τ g e = absurd k
 push-keeps run D n (Abst t) h k σ τ g e = keeps-then (push run D (suc n) t) wrap (push-keeps run D (suc n) t h k) wrap-keeps σ τ g e
 push-keeps run D n Nil h k σ τ g e = same σ τ g e
-push-keeps run D n (Cons t ts) h k σ τ g e = keeps-then (push run D n t) (push run D n ts) (push-keeps run D n t h (k .0)) (push-keeps run D n ts h (k .1)) σ τ g e
+push-keeps run D n (Cons t ts) h k σ τ g e =
+    keeps-then (push run D n t) (push run D n ts) (push-keeps run D n t h (k .0)) (push-keeps run D n ts h (k .1)) σ τ g e
 
 pushi-keeps : (run : ℕ → Option Action) (ks : List ℕ) (D : ℕ) → BodiesKeep run → (a : Entry) → EntryNamed a → Keeps (pushi run ks D a)
 pushi-keeps run ks D h (entry b a) k σ τ g e = go (every (placed ks b D) (freevars a)) e
@@ -273,7 +275,8 @@ exec-keeps ISABST h = isabst-keeps
 exec-keeps NEXT h = current-keeps _ (λ d m t cs env st off nst τ g e. same (state cs env st off nst) τ (g .0 .1, g .1, g .2) e)
 exec-keeps (CHECK vs) h = current-keeps _ (λ d m t cs env st off nst τ g e.
     tested (every (λ y. not (member vs y)) (freevars t)) (state (current d m t ∷ cs) env st off nst) τ g e)
-exec-keeps SET h = current-keeps _ (λ d m t cs env st off nst τ g e. same (state (current d m t ∷ cs) (entry d t ∷ env) st off nst) τ (g .0, (g .0 .0, g .1), g .2) e)
+exec-keeps SET h = current-keeps _ (λ d m t cs env st off nst τ g e.
+    same (state (current d m t ∷ cs) (entry d t ∷ env) st off nst) τ (g .0, (g .0 .0, g .1), g .2) e)
 exec-keeps (EQVAR x) h = current-keeps _ (λ d m t cs env st off nst τ g e. tested (isVar x t) (state (current d m t ∷ cs) env st off nst) τ g e)
 exec-keeps (EQIMM n) h = current-keeps _ (λ d m t cs env st off nst τ g e.
     entry-keeps n (λ a. eqimm a t) (λ a k. eqimm-keeps t a) (state (current d m t ∷ cs) env st off nst) τ g e)

@@ -1,0 +1,14 @@
+-- `reedbiscuit::run_number` is `runNumber`: of a refusal, the number that `documents::number` gives; else that of done.
+use borrow.Author.Needs.{needs}
+use Rattle.reedbiscuit.proofs.run_number.Statement.{statement}
+use Rattle.reedbiscuit.proofs.run_number.Tie as tie
+
+pub run-number-spec : {M : Type 1} → statement M
+run-number-spec =
+    tie.close
+    (tie.spec
+    (λ c. search needs)
+    (λ c. search needs)
+    (λ c. search needs)
+    (λ c κs. search needs)
+    (λ c. rw (c .before .before .answer .given .1) (c .number .ensures)))
