@@ -1,0 +1,4 @@
+pub mod Entering
+pub mod Asking
+pub mod Sifting
+pub mod Behind

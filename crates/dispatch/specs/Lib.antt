@@ -1,0 +1,3 @@
+pub mod Buckets
+pub mod Admitted
+pub mod Sorted

@@ -1,0 +1,4 @@
+pub mod Copied
+pub mod Exchanged
+pub mod Weighed
+pub mod NextPlan

@@ -1,0 +1,3 @@
+pub mod Placed
+pub mod Counting
+pub mod Laying

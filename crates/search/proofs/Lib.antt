@@ -1,0 +1,3 @@
+pub mod Lowest
+pub mod Attempting
+pub mod Looking
