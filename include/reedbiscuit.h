@@ -225,7 +225,7 @@ struct reed_list_answer {
  *
  * REED_LIST_TOO_LONG: there are more than REED_LIST_RULES rules, a cut one counted, or rewrites is over REED_REWRITES.
  * REED_WORKING_TABLE_SHORT: working_length is below REED_LIST_WORKING_WORDS.
- * REED_CODE_DOES_NOT_PASS: a rule is cut, or reed_check refuses its code; it has no words, for one.
+ * REED_CODE_DOES_NOT_PASS: a rule is cut, or its code does not pass, as reed_check says; one of no words does not.
  * REED_TOO_MANY_WORDS, REED_TABLE_NOT_GOOD, REED_TOO_DEEP, REED_METAVARIABLE_IN_SUBJECT: the subject, as for reed_run.
  * REED_RESULT_TOO_LARGE, REED_RESULT_TOO_DEEP, REED_RESULT_INDEX_TOO_HIGH: what reed_run asks of a result is asked of each whole plan, the
  * subject and those between included. The first plan that breaks a limit decides, and of the limits that it breaks the first one here. That

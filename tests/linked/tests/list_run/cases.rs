@@ -409,20 +409,23 @@ pub fn moved(rng: &mut Rng) -> Case {
     Case::new(codes, &plan, some_rewrites(rng))
 }
 
-/// A rewrite below lets a rule match above, at any distance: at a node between the root and it, or
-/// at the root; a rule for the rewritten node itself stands before or behind in the list.
+/// A rewrite below lets rules match above, at any distance, often several at once: the highest node
+/// is first. A rule for the rewritten node itself stands before or behind in the list.
 pub fn above(rng: &mut Rng) -> Case {
-    let levels = rng.between(1, 5);
     let name = 40;
-    // The left side goes down to the leaf, past the first or the second arguments.
+    // The left sides go down to the leaf, past the first or the second arguments.
     let first = rng.percent(50);
     let around = |inside: Term, with: Term| {
         Sym(name, if first { vec![inside, with] } else { vec![with, inside] })
     };
-    let left =
-        (0..levels).fold(Term::leaf(1), |term, level| around(term, Meta(level as u32, Vec::new())));
-    let right = Sym(name + 1, vec![Meta(rng.below(levels) as u32, Vec::new())]);
-    let mut codes = vec![rule(&Term::leaf(0), &Term::leaf(1)), rule(&left, &right)];
+    let mut codes = vec![rule(&Term::leaf(0), &Term::leaf(1))];
+    for _ in 0..rng.between(1, 3) {
+        let levels = rng.between(1, 5);
+        let down = |term, level| around(term, Meta(level as u32, Vec::new()));
+        let left = (0..levels).fold(Term::leaf(1), down);
+        let kept = Meta(rng.below(levels) as u32, Vec::new());
+        codes.push(rule(&left, &Sym(name + 1 + rng.below(2) as u32, vec![kept])));
+    }
     if rng.percent(50) {
         codes.push(rule(&Term::leaf(1), &Term::leaf(2)));
     }
@@ -432,7 +435,7 @@ pub fn above(rng: &mut Rng) -> Case {
     let order = rng.distinct(codes.len(), codes.len());
     let codes = order.into_iter().map(|number| codes[number as usize].clone()).collect();
     let mut plan = Term::leaf(rng.below(2) as u32);
-    for _ in 0..rng.between(levels, levels + 6) {
+    for _ in 0..rng.between(1, 8) {
         let with = Term::of_nodes(9, rng.between(1, 4));
         plan = around(plan, if rng.percent(20) { Term::leaf(0) } else { with });
     }
@@ -469,4 +472,30 @@ pub fn above_compared(rng: &mut Rng) -> Case {
     let order = rng.distinct(codes.len(), codes.len());
     let codes = order.into_iter().map(|number| codes[number as usize].clone()).collect();
     Case::new(codes, &plan, rng.below(12) as u32)
+}
+
+/// The same under bindings: only once S(X) has become T([X]) or T(X) below it, the latency of a With is
+/// put in place there, through nodes that were made and nodes that were not.
+pub fn above_bound(rng: &mut Rng) -> Case {
+    const S: u32 = 45;
+    const T: u32 = 46;
+    const WITH: u32 = 47;
+    let held = if rng.percent(50) { Term::abst(x()) } else { x() };
+    let settle = rule(&Sym(S, vec![x()]), &Sym(T, vec![held]));
+    let body = Sym(8, vec![Sym(T, vec![Meta(3, vec![Var(0)])]), Meta(4, vec![Var(0)])]);
+    let filled = Sym(9, vec![Meta(3, vec![y()]), Meta(4, vec![y()])]);
+    let with = |latency, body| Sym(WITH, vec![latency, Term::abst(body)]);
+    let fill = rule(&with(y(), body), &if rng.percent(40) { Term::abst(filled) } else { filled });
+    let mut plan = Sym(8, vec![Var(0), Var(1), Term::abst(Sym(9, vec![Var(0), Var(1), Var(3)]))]);
+    for _ in 0..rng.between(1, 5) {
+        let beside = Term::abst(Sym(9, vec![Var(rng.below(4) as u32), Var(0)]));
+        let latency = Sym(9, vec![Var(rng.below(3) as u32), Term::leaf(1)]);
+        plan = match rng.below(6) {
+            0 => Term::abst(plan),
+            1 => Sym(9, vec![plan, beside]),
+            _ => with(latency, Sym(8, vec![Sym(S, vec![plan]), beside])),
+        };
+    }
+    let codes = if rng.percent(50) { vec![settle, fill] } else { vec![fill, settle] };
+    Case::new(codes, &plan, rng.below(15) as u32)
 }

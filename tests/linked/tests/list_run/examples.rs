@@ -111,6 +111,8 @@ const F_LIFTS: &[u32] = &[0, 4, 1, 3, 0, 4, 2, 9, 13, 0, 65, 0, 10, 8, 4, 1];
 const P_TAKES: &[u32] = &[0, 6, 2, 3, 0, 4, 2, 3, 0, 4, 2, 13, 1, 64, 0];
 /// P(G, Y) to Y.
 const P_OF_G: &[u32] = &[0, 6, 2, 0, 5, 0, 3, 0, 4, 2, 13, 0, 64, 0];
+/// P(P(G, X), Y) to X.
+const P_OF_P: &[u32] = &[0, 6, 2, 0, 6, 2, 0, 5, 0, 3, 0, 4, 2, 3, 0, 4, 2, 13, 1, 64, 0];
 /// Rule B, as document 01 has it.
 const B: &[u32] = &[0, 1, 2, 0, 2, 1, 1, 3, 0, 4, 2, 3, 0, 4, 2, 13, 1, 63, 1, 0, 4, 13, 0, 64, 0];
 
@@ -188,6 +190,9 @@ fn above_and_below() -> Vec<Example> {
             false,
         ),
         on("the same to its end", &[P_OF_G, C_TO_G], p(p(c(), g()), c()), 9).gives(g(), 4, true),
+        // C becomes G, and both nodes above it match: the root goes first, though its rule is later.
+        on("of two above the higher one", &[P_OF_G, P_OF_P, C_TO_G], p(p(c(), f(g())), c()), 9)
+            .gives(f(g()), 2, true),
         // F(C) to P(C, C), whose parts are then rewritten.
         on("in what was made", &[F_DOUBLES, C_TO_G], f(c()), 9).gives(p(g(), g()), 3, true),
         on("at what was made", &[F_TAKES], f(f(f(c()))), 9).gives(c(), 3, true),

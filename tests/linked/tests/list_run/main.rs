@@ -121,7 +121,7 @@ const ALL_ENDS: &[fn(&Answer) -> bool] = &[rewritten, normal, not_normal, idle, 
 const ENDS: &[fn(&Answer) -> bool] = &[rewritten, normal, not_normal];
 
 /// First come the slips that, unseen, would spoil the test's own memory later.
-const KINDS: [Kind<ListRun>; 64] = [
+const KINDS: [Kind<ListRun>; 65] = [
     Kind::new("working table short", &[WORKING_TABLE_SHORT], 1_000, |rng| short(rng, feeding)),
     Kind::new("working table short, foreign", &[WORKING_TABLE_SHORT], 500, |rng| {
         short(rng, foreign)
@@ -154,8 +154,11 @@ const KINDS: [Kind<ListRun>; 64] = [
     Kind::new("names and counts that are near", MADE, 3_000, |rng| one(rng, near_names))
         .or_rarely(&[13, 14])
         .reaching(ALL_ENDS),
-    Kind::new("a rule above matches then", MADE, 4_000, |rng| one(rng, above)).reaching(ENDS),
+    Kind::new("rules above match then", MADE, 4_000, |rng| one(rng, above)).reaching(ENDS),
     Kind::new("the same by a comparison or CHECK", MADE, 4_000, |rng| one(rng, above_compared))
+        .reaching(ENDS),
+    Kind::new("the same under bindings", MADE, 2_000, |rng| one(rng, above_bound))
+        .or_rarely(&[14])
         .reaching(ENDS),
     Kind::new("moved from argument to argument", MADE, 2_000, |rng| one(rng, moved))
         .or_rarely(&[14])
