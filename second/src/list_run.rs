@@ -8,7 +8,7 @@
 
 use crate::build::Building;
 use crate::check::passes;
-use crate::code::{next_instruction, IS, ISABST, NEXT};
+use crate::code::{next_instruction, IS, ISABST, NEXT, OPERAND_WORDS};
 use crate::limits::{
     CODE_WORDS, DEPTH, LIST_RULES, LIST_WORKING_WORDS, NODE_WORDS, RESULT_NODES, REWRITES,
     SUBJECT_NODES,
@@ -17,7 +17,7 @@ use crate::matching::{accept_subject, Matching};
 use crate::measure::Measuring;
 use crate::refusals::{Refusal, DONE};
 use crate::run::match_part;
-use crate::tables::{node_at, nodes, part_at, Levels, Node, Step, ROOM};
+use crate::tables::{node_at, nodes, part_at, Levels, Node, Step, FIRST_SYMBOL, ROOM};
 use crate::working;
 
 /// What the list run gives back; on refusal all but the number is 0.
@@ -113,6 +113,8 @@ fn lay(table: &[u32]) -> Option<List<'_>> {
     Some(list)
 }
 
+/// Words of an IS.
+const IS_WORDS: usize = 1 + OPERAND_WORDS[IS as usize];
 /// How many sets of rules there are: nodes are told apart by a few bits.
 const BUCKETS: usize = 256;
 /// By how much a node's count moves its bucket.
@@ -143,13 +145,13 @@ impl<'a> Rules<'a> {
         Ok(Rules { codes, sets })
     }
 
-    /// The first rule that matches the term at the front of a part.
-    fn first<'p>(&self, part: &'p [u32], set: u32) -> Option<(usize, Matched<'p>)> {
+    /// The redex at a node: the first rule of a set that matches its part.
+    fn redex<'p>(&self, set: u32, node: usize, part: &'p [u32]) -> Option<Redex<'p>> {
         let mut left = set;
         while left != 0 {
-            let number = left.trailing_zeros() as usize;
-            if let Some(matched) = attempt(self.codes[number], part) {
-                return Some((number, matched));
+            let code = self.codes[left.trailing_zeros() as usize];
+            if let Some((matching, build)) = attempt(code, part) {
+                return Some(Redex { node, rule: left.trailing_zeros() as usize, matching, build });
             }
             left &= left - 1;
         }
@@ -183,32 +185,25 @@ fn root(code: &[u32]) -> Option<Node> {
     }
 }
 
-/// What a rule found in a part.
-struct Matched<'p> {
-    matching: Matching<'p>,
-    /// Where its build part begins.
-    build: usize,
-}
-
-/// Matches a rule with the term at the front of a part. The symbols that the
-/// code begins with are looked at first, since most attempts end there.
+/// Matches a rule with the term at the front of a part; gives also where its
+/// build part begins. The symbols that the code begins with are looked at
+/// first, since most attempts end there.
 #[inline]
-fn attempt<'p>(code: &[u32], part: &'p [u32]) -> Option<Matched<'p>> {
-    let mut at = 0;
-    let mut top = 0;
-    let mut current = 1;
-    while let &[IS, name, count, ..] = &code[at..] {
-        if node_at(part, top) != Node::symbol(name, count) {
+fn attempt<'p>(code: &[u32], part: &'p [u32]) -> Option<(Matching<'p>, usize)> {
+    let (mut top, mut current) = (0, 1);
+    for (instruction, words) in code.chunks_exact(IS_WORDS).zip(part.chunks_exact(NODE_WORDS)) {
+        let &[IS, name, count] = instruction else { break };
+        if words != [FIRST_SYMBOL + name, count] {
             return None;
         }
         top += 1;
         current += count as usize;
         current -= 1;
-        at += 3;
     }
+    let at = IS_WORDS * top;
     let mut matching = Matching::after(part, top, current);
     let build = match_part(code, at, &mut matching)?;
-    Some(Matched { matching, build })
+    Some((matching, build))
 }
 
 /// A plan that is rewritten.
@@ -226,7 +221,9 @@ type Path = [u16; 2 * DEPTH];
 struct Redex<'p> {
     node: usize,
     rule: usize,
-    matched: Matched<'p>,
+    matching: Matching<'p>,
+    /// Where the rule's build part begins.
+    build: usize,
 }
 
 /// Rewrites at most so many times; gives how many times that was, and whether
@@ -244,7 +241,7 @@ fn rewrite(
     for made in 0..most {
         let Some(redex) = found else { return Ok((made, true)) };
         let nodes = plan.make(rules, &redex, links, most_nodes, &mut aside)?;
-        let (node, old_nodes) = (redex.node, redex.matched.matching.top);
+        let (node, old_nodes) = (redex.node, redex.matching.top);
         plan.put_in(node, old_nodes, &aside[..NODE_WORDS * nodes]);
         found = plan.search(node, rules, &mut path);
     }
@@ -255,14 +252,18 @@ impl Plan<'_> {
     /// The first redex, if none stands before this node but above it.
     fn search(&self, node: usize, rules: &Rules, path: &mut Path) -> Option<Redex<'_>> {
         let depth = working::depth(self.places[node]) as usize;
-        let above = path[1..depth].iter().find_map(|&node| self.redex_at(node.into(), rules));
-        above.or_else(|| self.search_from(node, rules, path))
-    }
-
-    fn redex_at(&self, node: usize, rules: &Rules) -> Option<Redex<'_>> {
-        let set = rules.set(node_at(self.words, node));
-        let (rule, matched) = rules.first(self.part(node), set)?;
-        Some(Redex { node, rule, matched })
+        for &above in &path[1..depth] {
+            let above = usize::from(above);
+            let set = rules.set(node_at(self.words, above));
+            if set == 0 {
+                continue;
+            }
+            let found = rules.redex(set, above, self.part(above));
+            if found.is_some() {
+                return found;
+            }
+        }
+        self.search_from(node, rules, path)
     }
 
     /// The part of the plan that starts at this node.
@@ -272,15 +273,27 @@ impl Plan<'_> {
 
     /// The first redex from a node on.
     fn search_from(&self, from: usize, rules: &Rules, path: &mut Path) -> Option<Redex<'_>> {
+        let mut next = from;
+        while let Some((node, set)) = self.candidate(next, rules, path) {
+            let found = rules.redex(set, node, self.part(node));
+            if found.is_some() {
+                return found;
+            }
+            next = node + 1;
+        }
+        None
+    }
+
+    /// The first node from this one on whose root some rule may ask for, with
+    /// these rules. A loop of its own, since most nodes are none.
+    #[inline(never)]
+    fn candidate(&self, from: usize, rules: &Rules, path: &mut Path) -> Option<(usize, u32)> {
         let places = &self.places[from..self.nodes];
         for ((node, &place), root) in (from..).zip(places).zip(nodes(self.part(from))) {
             path[working::depth(place) as usize % path.len()] = node as u16;
             let set = rules.set(root);
-            if set == 0 {
-                continue;
-            }
-            if let Some((rule, matched)) = rules.first(self.part(node), set) {
-                return Some(Redex { node, rule, matched });
+            if set != 0 {
+                return Some((node, set));
             }
         }
         None
@@ -296,7 +309,7 @@ impl Plan<'_> {
         most_nodes: usize,
         aside: &mut [u32],
     ) -> Result<usize, Refusal> {
-        let Redex { node, rule, matched: Matched { matching, build } } = redex;
+        let Redex { node, rule, matching, build } = redex;
         let code = rules.codes[*rule];
         let (subject, places) = (self.part(*node), &self.places[*node..self.nodes]);
         let most_nodes = most_nodes + matching.top - self.nodes;

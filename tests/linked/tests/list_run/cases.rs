@@ -474,6 +474,36 @@ pub fn above_compared(rng: &mut Rng) -> Case {
     Case::new(codes, &plan, rng.below(12) as u32)
 }
 
+/// The same from far below: what is compared or forbidden at or near the root is changed any number of
+/// levels down.
+pub fn far_above(rng: &mut Rng) -> Case {
+    let settle = rule(&Term::leaf(0), &Term::leaf(1));
+    let equal = rule(&Sym(40, vec![x(), x()]), &Sym(41, vec![x()]));
+    let unbound = rule(&Sym(42, vec![Term::abst(x())]), &x());
+    let drop = rule(&Sym(43, vec![x(), y()]), &y());
+    let levels = rng.between(1, DEPTH - 8);
+    let down = |rng: &mut Rng, end: Term| {
+        (0..levels).fold(end, |term, level| match level % 3 {
+            0 => Sym(8, vec![Term::leaf(7), term]),
+            1 if rng.percent(30) => Sym(8, vec![term, Term::leaf(7)]),
+            _ => Sym(8, vec![term]),
+        })
+    };
+    let plan = if rng.percent(50) {
+        let one = down(rng, Term::leaf(1));
+        let mut other = one.clone();
+        let node = other.nodes() - 1 - rng.below(3);
+        if let leaf @ Sym(1, _) = other.at_mut(node) {
+            *leaf = Term::leaf(0);
+        }
+        Sym(40, if rng.percent(50) { vec![one, other] } else { vec![other, one] })
+    } else {
+        Sym(42, vec![Term::abst(down(rng, Sym(43, vec![Var(0), Term::leaf(2)])))])
+    };
+    let plan = Term::chain(9, rng.below(3), plan);
+    Case::new(vec![settle, equal, unbound, drop], &plan, rng.below(5) as u32)
+}
+
 /// The same under bindings: only once S(X) has become T([X]) or T(X) below it, the latency of a With is
 /// put in place there, through nodes that were made and nodes that were not.
 pub fn above_bound(rng: &mut Rng) -> Case {

@@ -121,7 +121,7 @@ const ALL_ENDS: &[fn(&Answer) -> bool] = &[rewritten, normal, not_normal, idle, 
 const ENDS: &[fn(&Answer) -> bool] = &[rewritten, normal, not_normal];
 
 /// First come the slips that, unseen, would spoil the test's own memory later.
-const KINDS: [Kind<ListRun>; 65] = [
+const KINDS: [Kind<ListRun>; 66] = [
     Kind::new("working table short", &[WORKING_TABLE_SHORT], 1_000, |rng| short(rng, feeding)),
     Kind::new("working table short, foreign", &[WORKING_TABLE_SHORT], 500, |rng| {
         short(rng, foreign)
@@ -157,6 +157,7 @@ const KINDS: [Kind<ListRun>; 65] = [
     Kind::new("rules above match then", MADE, 4_000, |rng| one(rng, above)).reaching(ENDS),
     Kind::new("the same by a comparison or CHECK", MADE, 4_000, |rng| one(rng, above_compared))
         .reaching(ENDS),
+    Kind::new("the same from far below", MADE, 1_500, |rng| one(rng, far_above)).reaching(ENDS),
     Kind::new("the same under bindings", MADE, 2_000, |rng| one(rng, above_bound))
         .or_rarely(&[14])
         .reaching(ENDS),
