@@ -96,6 +96,7 @@ fn load(name: &str) -> Load {
         "second" => fails_at_second(variant),
         "leaf" => leaf(variant),
         "leaves" => leaves(),
+        "renamed" => renamed(),
         "grown" => grown(variant),
         "moved" => moved(variant),
         "beta" => betas(variant),
@@ -187,6 +188,14 @@ fn leaves() -> Load {
     let plan = Term::over(9, vec![Sym(9, vec![Term::leaf(A), Var(1)]); 1_000]);
     let rename = rule(&Term::leaf(A), &Term::leaf(B));
     Load::new(vec![rename], plan, REWRITES)
+}
+
+/// Each of a thousand nodes above a leaf is renamed once.
+fn renamed() -> Load {
+    let over = |name: u32, below: Term| Sym(name, vec![below]);
+    let place = |number: u32| over(8, Term::leaf(1_000 + number));
+    let plan = Term::over(9, (0..REWRITES).map(place).collect());
+    Load::new(vec![rule(&over(8, x()), &over(SUCCESSOR, x()))], plan, REWRITES)
 }
 
 /// A node more and a node less, in turn, before or behind 3,700 others.

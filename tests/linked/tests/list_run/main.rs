@@ -281,7 +281,7 @@ const KINDS: [Kind<ListRun>; 66] = [
     ),
     Kind::new("none of these", MADE, 500, |rng| vec![order::call(rng, &[])]).reaching(&[normal]),
     // Anything.
-    Kind::new("any words", &[1, 2, 11, 37], 1_000, any_words).or_rarely(&[0, 13, 16]),
+    Kind::new("any words", &[1, 2, 11, 37], 1_000, any_words).or_rarely(&[0, 4, 13]),
     Kind::new("small subjects", &[0, 1, 4], 4_000, small_subjects).reaching(&[rewritten]),
 ];
 
