@@ -1,7 +1,7 @@
 #!/usr/bin/env bash
 # run.sh: rewrites a second of Maude (apt install maude) and of the library on the same first-order lists, by hand: not part of any gate. Needs
-# what ../run.sh needs. Maude tells its rewrites and milliseconds itself, after reading the plan; the library's calls are timed as a whole, with
-# the check of the rules and of the plan.
+# what ../run.sh needs. Maude tells its rewrites and milliseconds itself, after reading the plan; the calls here are timed as a whole, with the
+# check of the rules and of the plan, and the writing of the result.
 set -euo pipefail
 cd "$(dirname "$0")/.."
 cargo build --offline --release --quiet -j1
@@ -9,12 +9,10 @@ bench=target/release/reed-bench
 scratch=$(mktemp -d)
 trap 'rm -rf "$scratch"' EXIT
 
-# seconds COMMAND...: of wall time
+# seconds COMMAND...: of the processor's time
 seconds() {
-    local from
-    from=$(date +%s.%N)
-    "$@"
-    echo "$from $(date +%s.%N)" | awk '{ print $2 - $1 }'
+    local TIMEFORMAT=%U
+    { time "$@"; } 2>&1
 }
 
 # maude_rate LOAD KIND COMMAND TIMES: rewrites by milliseconds, over so many commands

@@ -1,15 +1,12 @@
-//! The list run (02, request 1) against the plainest one there is, over the
-//! naive model: after each rewrite it searches from the root again, asks every
-//! rule at every node, and makes a new term.
+//! The list run (02, request 1) against the plainest one there is, the model's.
 
 mod model;
 
 use std::collections::BTreeMap;
 
-use model::machine::{run as model_run, Instruction, Stop};
-use model::passing::passes;
+use model::list::list_run as plain;
 use model::seeds;
-use model::terms::{abst, accept_subject, depth, encode, highest_index, size, Term as Tree};
+use model::terms::encode;
 use second::limits::{LIST_WORKING_WORDS, NODE_WORDS, RESULT_NODES, WORKING_WORDS};
 use second::seed::*;
 use second::{compile, list_run, ListAnswer};
@@ -48,98 +45,20 @@ fn code_of(rule: &Rule) -> Vec<u32> {
     code
 }
 
-// The plain list run.
-
-/// The plan, the rewrites made and whether no rule matches any more, or the number of a refusal.
-fn plain(call: &Call) -> Result<(Tree, u32, bool), u32> {
-    let rules = split(&call.rules);
-    if rules.len() > 32 || call.rewrites > 1_000 {
-        return Err(37);
-    }
-    if call.work < 16_384 {
-        return Err(16);
-    }
-    let rules: Option<Vec<Vec<Instruction>>> =
-        rules.iter().map(|code| code.and_then(passes)).collect();
-    let rules = rules.ok_or(11u32)?;
-    let mut plan = accept_subject(&call.subject)?;
-    let most = 4_096.min(call.result / 2);
-    let mut made = 0;
-    loop {
-        // 13, 14 and 15 are read over each whole plan of the sequence.
-        if size(&plan) > most {
-            return Err(13);
-        }
-        if depth(&plan) > 64 {
-            return Err(14);
-        }
-        if highest_index(&plan) > 65_535 {
-            return Err(15);
-        }
-        match next(&plan, &rules) {
-            None => return Ok((plan, made, true)),
-            Some(_) if made == call.rewrites => return Ok((plan, made, false)),
-            Some(Err(number)) => return Err(number),
-            Some(Ok(new)) => plan = new,
-        }
-        made += 1;
-    }
-}
-
-/// The rules of a table; none stands for one that is cut.
-fn split(table: &[u32]) -> Vec<Option<&[u32]>> {
-    let mut rules = Vec::new();
-    let mut rest = table;
-    while let [words, behind @ ..] = rest {
-        let words = *words as usize;
-        if words > behind.len() {
-            rules.push(None);
-            break;
-        }
-        rules.push(Some(&behind[..words]));
-        rest = &behind[words..];
-    }
-    rules
-}
-
-/// The plan after one rewrite at the first node where a rule matches, by the
-/// first one there; 13 if that makes more nodes than the model cares to.
-fn next(plan: &Tree, rules: &[Vec<Instruction>]) -> Option<Result<Tree, u32>> {
-    for rule in rules {
-        match model_run(plan, rule) {
-            Ok(made) => return Some(Ok(made)),
-            Err(Stop::TooLarge) => return Some(Err(13)),
-            Err(Stop::Failure) => {}
-        }
-    }
-    match plan {
-        Tree::Var(_) | Tree::Meta(..) => None,
-        Tree::Abst(body) => next(body, rules).map(|new| new.map(abst)),
-        Tree::Sym(name, arguments) => {
-            let first = |place: usize| Some((place, next(&arguments[place], rules)?));
-            let (place, new) = (0..arguments.len()).find_map(first)?;
-            Some(new.map(|new| {
-                let mut arguments = arguments.clone();
-                arguments[place] = new;
-                Tree::Sym(*name, arguments)
-            }))
-        }
-    }
-}
-
 /// Makes a call and the plain one; gives the answer that both agree on.
 fn compare(call: &Call) -> ListAnswer {
     let (mut work, mut result) = (vec![OLD; call.work], vec![OLD; call.result]);
     let answer = list_run(&call.rules, &call.subject, call.rewrites, &mut work, &mut result);
     let mut expected = vec![OLD; call.result];
-    let expected_answer = match plain(call) {
-        Ok((plan, rewrites, normal)) => {
-            let words = encode(&plan);
-            expected[..words.len()].copy_from_slice(&words);
-            ListAnswer { number: 0, words: words.len() as u32, rewrites, normal: normal.into() }
-        }
-        Err(number) => ListAnswer { number, words: 0, rewrites: 0, normal: 0 },
-    };
+    let expected_answer =
+        match plain(&call.rules, &call.subject, call.rewrites, [call.work, call.result]) {
+            Ok((plan, rewrites, normal)) => {
+                let words = encode(&plan);
+                expected[..words.len()].copy_from_slice(&words);
+                ListAnswer { number: 0, words: words.len() as u32, rewrites, normal: normal.into() }
+            }
+            Err(number) => ListAnswer { number, words: 0, rewrites: 0, normal: 0 },
+        };
     assert_eq!(answer, expected_answer, "{call:?}");
     assert_eq!(result, expected, "{call:?}");
     assert!(work.iter().all(|word| *word == 0), "{call:?}");
