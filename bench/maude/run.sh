@@ -23,7 +23,7 @@ maude_rate() {
         echo quit
     } >"$scratch/load.maude"
     maude -no-banner -no-wrap -batch "$scratch/load.maude" </dev/null | sed -n 's/^rewrites: \([0-9]*\) in [0-9]*ms cpu (\([0-9]*\)ms real).*/\1 \2/p' |
-        awk '{ rewrites += $1; ms += $2 } END { if (ms) printf "%.2f million\n", rewrites / ms / 1e3; else print "too short" }'
+        awk '{ rewrites += $1; ms += $2 } END { if (ms >= 50) printf "%.2f million\n", rewrites / ms / 1e3; else print "too short" }'
 }
 
 echo '| list | rewrites of a call | the library, a second | second, a second | Maude, reduce | Maude, rewrite |'
