@@ -468,7 +468,7 @@ pub fn above_compared(rng: &mut Rng) -> Case {
             _ => Sym(8, vec![plan, part(rng)]),
         };
     }
-    let codes = vec![settle, equal, unbound, drop];
+    let codes = [settle, equal, unbound, drop];
     let order = rng.distinct(codes.len(), codes.len());
     let codes = order.into_iter().map(|number| codes[number as usize].clone()).collect();
     Case::new(codes, &plan, rng.below(12) as u32)
