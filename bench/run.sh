@@ -108,7 +108,7 @@ if wants watch; then
     echo
 fi
 if wants list_run; then
-    tables list_run list node none-{0,1,32} second-{tree,first} leaf-{small,first,last,deep} leaves renamed grown-{first,last} moved-{below,first} \
+    tables list_run list node none-{0,1,32} near second-{tree,first} leaf-{small,first,last,deep} leaves renamed grown-{first,last} moved-{below,first} \
         beta-{200,first} nested last-{same,other} run-{small,beta,beta-4096,bodies,bodies-cells,bodies-abstractions,both} \
         refused-37 refused-16 refused-11 refused-13
 fi

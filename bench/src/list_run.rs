@@ -93,6 +93,7 @@ fn load(name: &str) -> Load {
     let (family, variant) = name.split_once('-').unwrap_or((name, ""));
     match family {
         "none" => none(variant.parse().expect("how many rules")),
+        "near" => near(),
         "second" => fails_at_second(variant),
         "leaf" => leaf(variant),
         "leaves" => leaves(),
@@ -150,6 +151,13 @@ fn behind(term: Term, nodes: usize) -> Term {
 fn none(rules: usize) -> Load {
     let of_root = |name: usize| rule(&Sym(100 + name as u32, vec![x(), y()]), &x());
     Load::idle((0..rules).map(of_root).collect(), other(SUBJECT_NODES))
+}
+
+/// As many rules as may be, with root symbols that differ from the one that fills the plan, and from
+/// each other, in no low bit of the name.
+fn near() -> Load {
+    let of_root = |number: u32| rule(&Sym(2 + (number << 8), vec![x(), y()]), &x());
+    Load::idle((1..=LIST_RULES as u32).map(of_root).collect(), other(SUBJECT_NODES))
 }
 
 /// As many rules as may be of one root symbol, which fills the plan. All fail at the second node,

@@ -115,10 +115,14 @@ fn lay(table: &[u32]) -> Option<List<'_>> {
 
 /// Words of an IS.
 const IS_WORDS: usize = 1 + OPERAND_WORDS[IS as usize];
-/// How many sets of rules there are: nodes are told apart by a few bits.
-const BUCKETS: usize = 256;
-/// By how much a node's count moves its bucket.
-const COUNT_SHIFT: u32 = 5;
+/// How many sets of rules there are: nodes are told apart by the high bits of a
+/// product, so that names which differ in a few bits only fall apart.
+const BUCKETS: usize = 1 << BUCKET_BITS;
+const BUCKET_BITS: u32 = 8;
+/// Above the bits of a first word.
+const COUNT_SHIFT: u32 = 18;
+/// Near 2 to the power of 32 divided by the golden ratio, and odd.
+const FACTOR: u32 = 0x9E37_79B1;
 
 /// Rules that pass, sorted by the root that they ask for.
 struct Rules<'a> {
@@ -167,7 +171,8 @@ impl<'a> Rules<'a> {
 
 #[inline]
 fn bucket(node: Node) -> usize {
-    (node.first as usize + ((node.count as usize) << COUNT_SHIFT)) % BUCKETS
+    let product = (node.first | node.count << COUNT_SHIFT).wrapping_mul(FACTOR);
+    (product >> (u32::BITS - BUCKET_BITS)) as usize
 }
 
 /// The root that code asks for; none if it takes every term. Before IS, ISABST
