@@ -80,7 +80,7 @@ tables() {
 }
 
 # The calls that were asked for, or all.
-wanted=${*:-read compile check run watch}
+wanted=${*:-read compile check run watch list_run}
 wants() { [[ " $wanted " == *" $1 "* ]]; }
 
 if wants read; then tables read file word smallest three beta odd largest refused; echo; fi
@@ -105,4 +105,10 @@ fi
 if wants watch; then
     tables watch plan node "${plans[@]}" comb-4096 abstractions bodies refused-11 refused-2 refused-1 refused-3 refused-4 refused-12-first refused-12-last \
         refused-13-bodies
+    echo
+fi
+if wants list_run; then
+    tables list_run list node none-{0,1,32} near second-{tree,first} leaf-{small,first,last,deep} leaves renamed grown-{first,last} moved-{below,first} \
+        beta-{200,first} nested last-{same,other} run-{small,beta,beta-4096,bodies,bodies-cells,bodies-abstractions,both} \
+        refused-37 refused-16 refused-11 refused-13
 fi

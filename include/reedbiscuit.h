@@ -18,7 +18,7 @@ extern "C" {
  * Numbers given back.
  *
  * Where it is not REED_DONE, all else that the call gives is 0, and the tables that it was lent to write words to are as they were. The one
- * exception is reed_run's working table, which is all zeros after every run, refused or done.
+ * exception is the working table of reed_run and reed_list_run, which is all zeros after every run, refused or done.
  */
 enum reed_number {
     REED_DONE = 0,                              /* done */
@@ -38,7 +38,8 @@ enum reed_number {
     REED_RESULT_TOO_DEEP = 14,                  /* result depth over 64 */
     REED_RESULT_INDEX_TOO_HIGH = 15,            /* result index over 65,535 */
     REED_WORKING_TABLE_SHORT = 16,              /* working table short */
-    REED_BAD_FILE = 17                          /* bad file */
+    REED_BAD_FILE = 17,                         /* bad file */
+    REED_LIST_TOO_LONG = 37                     /* over 32 rules, a cut one counted, or over 1,000 rewrites */
 };
 
 /*
@@ -148,7 +149,7 @@ enum {
     REED_RESULT_NODES = 4096,  /* the most nodes of a result */
     REED_RESULT_WORDS = 8192,  /* the same in words: a longer result table gives no more room */
     REED_INDEX = 65535,        /* the highest index of a variable */
-    REED_WORKING_WORDS = 8192  /* the fewest words of a working table */
+    REED_WORKING_WORDS = 8192  /* the fewest words of a reed_run's working table */
 };
 
 /*
@@ -189,6 +190,51 @@ struct reed_watch_answer {
  * REED_METAVARIABLE_IN_SUBJECT, as for reed_run; REED_MATCH_FAILS, if one of the first i instructions fails. There are no limits to a result.
  */
 struct reed_watch_answer reed_watch(const uint32_t *code, size_t code_length, const uint32_t *subject, size_t subject_length, uint32_t i);
+
+/*
+ * Lists of rules.
+ *
+ * A table of rules holds one after the other, in the order in which they are asked: each is a word that counts its code's words, then that
+ * code, as reed_compile writes it or whoever else. There may be none. A rule whose count says more words than the table still has is cut.
+ */
+enum {
+    REED_LIST_RULES = 32,           /* the most rules of a list */
+    REED_REWRITES = 1000,           /* the most rewrites that may be asked for */
+    REED_LIST_WORKING_WORDS = 16384 /* the fewest words of a working table */
+};
+
+/* REED_DONE and what became of the plan, or a refusal and three times 0. */
+struct reed_list_answer {
+    uint32_t number;
+    uint32_t words;    /* words of the last plan, at the front of the result table */
+    uint32_t rewrites; /* how many were made */
+    uint32_t normal;   /* 1 if no rule matches that plan at any node, else 0 */
+};
+
+/*
+ * Runs a list of rules to the end, but for at most so many rewrites: each is made at the first node of the plan, in prefix order, where some
+ * rule matches, by the first such rule of the list. The first plan is the subject. Puts the last one at the front of the result table and
+ * leaves the rest of that as it was. Where the rewrites are used up, the last plan is still looked at for normal; with 0 of them nothing else
+ * is done. The subject is only read.
+ *
+ * The working table may hold anything before. After the call every word of it is 0, whatever number the call gives and however long or short
+ * the table is. Words beyond the first REED_LIST_WORKING_WORDS serve nothing and are zeroed too.
+ *
+ * A refusal leaves all of the result table as it was, and tells nothing of the plans before it. Where several are due, it is the first of
+ * these:
+ *
+ * REED_LIST_TOO_LONG: there are more than REED_LIST_RULES rules, a cut one counted, or rewrites is over REED_REWRITES.
+ * REED_WORKING_TABLE_SHORT: working_length is below REED_LIST_WORKING_WORDS.
+ * REED_CODE_DOES_NOT_PASS: a rule is cut, or its code does not pass, as reed_check says; one of no words does not.
+ * REED_TOO_MANY_WORDS, REED_TABLE_NOT_GOOD, REED_TOO_DEEP, REED_METAVARIABLE_IN_SUBJECT: the subject, as for reed_run.
+ * REED_RESULT_TOO_LARGE, REED_RESULT_TOO_DEEP, REED_RESULT_INDEX_TOO_HIGH: what reed_run asks of a result is asked of each whole plan, the
+ * subject and those between included. The first plan that breaks a limit decides, and of the limits that it breaks the first one here. That
+ * a later plan would fit, or that another rule or node would not break it, does not help.
+ *
+ * A rule that matches nowhere is no refusal: REED_MATCH_FAILS is not given.
+ */
+struct reed_list_answer reed_list_run(const uint32_t *rules, size_t rules_length, const uint32_t *subject, size_t subject_length,
+                                      uint32_t rewrites, uint32_t *working, size_t working_length, uint32_t *result, size_t result_length);
 
 #ifdef __cplusplus
 }

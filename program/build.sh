@@ -19,6 +19,6 @@ emulator=$tools/bin/qemu-x86_64
 [ -x "$emulator" ] || emulator=''
 cat >"$out/$name" <<END
 #!/bin/sh
-exec ${emulator:+"'$emulator'"} '$tools/lib/ld-linux-x86-64.so.2' --library-path '$tools/lib' '$out/$name.elf'
+exec ${emulator:+"'$emulator'"} '$tools/lib/ld-linux-x86-64.so.2' --library-path '$tools/lib' '$out/$name.elf' "\$@"
 END
 chmod +x "$out/$name"

@@ -1,7 +1,8 @@
 #!/usr/bin/env bash
-# memcheck.sh [SHARE]: valgrind's memcheck over examples/apply.c, on every rule file, and over the calls of the comparison tests (linked/), one
-# of SHARE seeds, 100 if none is said: no error, no leak. Needs gcc, valgrind, the kit and target/staticlib/libreedbiscuit.a (rt staticlib
-# reedbiscuit). Where valgrind cannot run that, which is x86-64 code, it runs the same crates as code for this machine.
+# memcheck.sh [SHARE]: valgrind's memcheck over examples/apply.c, on every rule file, over examples/rewrite.c, on every list, and over the calls
+# of the comparison tests (linked/), one of SHARE seeds, 100 if none is said: no error, no leak. Needs gcc, valgrind, the kit and
+# target/staticlib/libreedbiscuit.a (rt staticlib reedbiscuit). Where valgrind cannot run that, which is x86-64 code, it runs the same crates
+# as code for this machine.
 set -euo pipefail
 cd "$(dirname "$0")/.."
 
@@ -52,11 +53,20 @@ for rule in examples/*.rule; do
 done
 no_error apply.c
 
+compile rewrite examples/rewrite.c
+for line in examples/rewrite/*/line; do
+    list=$(dirname "$line")
+    if ! "${memcheck[@]}" "$made/rewrite" "$(cat "$list/rewrites")" "$list"/*.rule | cmp - "$line"; then
+        fail "an error or a wrong line in rewrite.c on $list"
+    fi
+done
+no_error rewrite.c
+
 # What a call is lent is in blocks of just its length (REED_BLOCKS). The tests do not ask how a host ended: its log tells.
 compile host tests/linked/host/host.c
 printf '#!/bin/sh\nexec %s %s\n' "${memcheck[*]}" "$made/host" >"$made/checked_host"
 chmod +x "$made/checked_host"
 (cd tests/linked && REED_ENGINE=host REED_OTHER_HOST=$made/checked_host REED_BLOCKS=1 SEED_SHARE=$share \
-    cargo test --offline --release --quiet -j1 --test read --test compile --test check --test run --test watch) ||
+    cargo test --offline --release --quiet -j1 --test read --test compile --test check --test run --test watch --test list_run) ||
     fail "the comparison tests fail"
 no_error "the host, for one of $share seeds"

@@ -26,6 +26,14 @@ pub struct ReedWatchAnswer {
     node: u32,
 }
 
+#[repr(C)]
+pub struct ReedListAnswer {
+    number: u32,
+    words: u32,
+    rewrites: u32,
+    normal: u32,
+}
+
 impl From<second::Answer> for ReedAnswer {
     fn from(answer: second::Answer) -> ReedAnswer {
         ReedAnswer { number: answer.number, words: answer.words }
@@ -106,4 +114,25 @@ pub unsafe extern "C" fn reed_watch(
     let second::WatchAnswer { number, current, entries, finished, node } =
         second::watch(code, subject, i);
     ReedWatchAnswer { number, current, entries, finished, node }
+}
+
+/// # Safety
+/// As for `reed_read`.
+#[no_mangle]
+pub unsafe extern "C" fn reed_list_run(
+    rules: *const u32,
+    rules_length: usize,
+    subject: *const u32,
+    subject_length: usize,
+    rewrites: u32,
+    working: *mut u32,
+    working_length: usize,
+    result: *mut u32,
+    result_length: usize,
+) -> ReedListAnswer {
+    let (rules, subject) = (part(rules, rules_length), part(subject, subject_length));
+    let (working, result) = (part_mut(working, working_length), part_mut(result, result_length));
+    let second::ListAnswer { number, words, rewrites, normal } =
+        second::list_run(rules, subject, rewrites, working, result);
+    ReedListAnswer { number, words, rewrites, normal }
 }

@@ -5,11 +5,13 @@
 //! `reed-bench CALL SIDE CASE size`: prints by how many words or nodes the instructions are to be
 //! divided.
 //!
-//! CALL is `read`, `compile`, `check`, `run` or `watch`, SIDE is `reedbiscuit` or `second`; each
-//! call's module knows its cases, `plans.rs` those of the last two. run.sh makes tables of it all.
+//! CALL is `read`, `compile`, `check`, `run`, `watch` or `list_run`, SIDE is `reedbiscuit` or
+//! `second`; each call's module knows its cases, `plans.rs` those of the run and watch. run.sh makes
+//! tables of it all.
 
 mod check;
 mod compile;
+mod list_run;
 mod plans;
 mod proved;
 mod read;
@@ -47,6 +49,7 @@ fn main() {
         "check" => measure(check::LentCode::named(case), side, what),
         "run" => measure(run::LentPlan::named(case), side, what),
         "watch" => measure(watch::Watched::named(case), side, what),
+        "list_run" => measure(list_run::LentList::named(case), side, what),
         _ => panic!("no such call: {call}"),
     }
 }

@@ -73,7 +73,7 @@ fn of_rule(left: &Term, right: &Term, subject: &Term) -> (Vec<u32>, Vec<u32>) {
 
 /// A tree of so many nodes, each inner one with two arguments, but for one where that does not come
 /// out; all leaves are the same.
-fn tree(nodes: usize, leaf: &Term) -> Term {
+pub fn tree(nodes: usize, leaf: &Term) -> Term {
     match nodes {
         1 => leaf.clone(),
         2 => Sym(2, vec![leaf.clone()]),
@@ -186,7 +186,8 @@ fn in_levels(levels: &[Level]) -> (Vec<u32>, Vec<u32>) {
 }
 
 fn in_cells() -> (Vec<u32>, Vec<u32>) {
-    let body = |code: Vec<u32>, _| [&pushi(0, difference(0, 1), &[(0, code)])[..], &[CELL, 2, 1]].concat();
+    let body =
+        |code: Vec<u32>, _| [&pushi(0, difference(0, 1), &[(0, code)])[..], &[CELL, 2, 1]].concat();
     let building = (0..NESTING - 1).fold(vec![CELL, 1, 0], body);
     ([&[ISABST, SET, NEXT], &building[..]].concat(), Term::abst(Var(0)).words())
 }

@@ -2,10 +2,10 @@
 //! lets the emulator count.
 
 #[cfg(target_arch = "x86_64")]
-pub use linked::engine::linked::{check, compile, read, run, watch};
+pub use linked::engine::linked::{check, compile, list_run, read, run, watch};
 
 #[cfg(not(target_arch = "x86_64"))]
-pub use hosted::{check, compile, read, run, stack, watch};
+pub use hosted::{check, compile, list_run, read, run, stack, watch};
 
 #[cfg(not(target_arch = "x86_64"))]
 mod hosted {
@@ -16,11 +16,12 @@ mod hosted {
     use linked::compile::Compile;
     use linked::engine::Engine;
     use linked::guarded::Area;
+    use linked::list_run::{self, ListRun};
     use linked::read::Read;
     use linked::run::{Lent, Run};
     use linked::watch::Watch;
     use second::seed::{Rng, Rule};
-    use second::{Answer, ReadAnswer, WatchAnswer};
+    use second::{Answer, ListAnswer, ReadAnswer, WatchAnswer};
 
     thread_local! {
         static ENGINE: RefCell<Engine> = RefCell::new(Engine::start().expect("a host program"));
@@ -57,6 +58,19 @@ mod hosted {
         let [number, current, entries, finished, node] =
             made(Watch::new(&mut Rng::new(0), code, subject, i));
         WatchAnswer { number, current, entries, finished, node }
+    }
+
+    pub fn list_run(
+        rules: &[u32],
+        subject: &[u32],
+        rewrites: u32,
+        working: &mut [u32],
+        result: &mut [u32],
+    ) -> ListAnswer {
+        let lent = list_run::Lent { working: working.len(), result: result.len(), reach: 0 };
+        let call = ListRun::new(&mut Rng::new(0), rules, subject, rewrites, lent);
+        let [number, words, rewrites, normal, _] = made(call);
+        ListAnswer { number, words, rewrites, normal }
     }
 
     /// The bytes of the host's stack that a call writes to.

@@ -1,6 +1,6 @@
 //! Wake-plan rules: the independent second implementation.
 //!
-//! Written from document 01 and source document 004 alone. The modules follow
+//! Written from documents 01 and 02 and source document 004 alone. The modules follow
 //! the way of the data: bytes, tables, rules, code, check, machine, result.
 //! No call but `plan_apply` takes memory of its own.
 
@@ -12,6 +12,7 @@ mod check;
 mod code;
 mod keys;
 pub mod limits;
+mod list_run;
 mod matching;
 mod measure;
 mod program;
@@ -26,6 +27,7 @@ mod working;
 
 pub use bytes::{read, ReadAnswer};
 pub use check::check;
+pub use list_run::{list_run, ListAnswer};
 pub use program::plan_apply;
 pub use refusals::Answer;
 pub use run::run;

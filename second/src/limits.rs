@@ -1,4 +1,4 @@
-//! The numbers of document 01, each in one place.
+//! The numbers of document 01, and of 02 as far as it has landed, each in one place.
 
 /// Words that a node takes in a table.
 pub const NODE_WORDS: usize = 2;
@@ -31,6 +31,13 @@ pub const ENTRIES: usize = METAVARIABLES;
 pub const NESTING: usize = 64;
 /// What is added to the difference d in EQI and PUSHI, so that no word is negative.
 pub const DIFFERENCE_BIAS: u32 = 64;
+
+/// Rules in a list.
+pub const LIST_RULES: usize = 32;
+/// Rewrites that a list run may be asked for.
+pub const REWRITES: u32 = 1_000;
+/// Words that the working table of a list run needs at least.
+pub const LIST_WORKING_WORDS: usize = 16_384;
 
 /// The only version byte of a file.
 pub const FILE_VERSION: u8 = 1;

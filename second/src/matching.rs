@@ -70,8 +70,15 @@ pub struct Matching<'a> {
 impl<'a> Matching<'a> {
     /// The subject is the one current term.
     pub fn new(subject: &'a [u32]) -> Matching<'a> {
+        Matching::after(subject, 0, 1)
+    }
+
+    /// After symbols that the caller has looked at: so many terms are current,
+    /// from node `top` of the subject on.
+    #[inline]
+    pub fn after(subject: &'a [u32], top: usize, current: usize) -> Matching<'a> {
         let entries = [Entry::default(); ENTRIES];
-        Matching { subject, top: 0, current: 1, entries, made: 0, behind: 0 }
+        Matching { subject, top, current, entries, made: 0, behind: 0 }
     }
 
     /// An entry, counted from the newest.

@@ -54,7 +54,10 @@ pub struct Measuring<'a> {
     pub matching: &'a Matching<'a>,
     pub links: &'a mut [u32],
     pub places: &'a [u32],
+    /// How many nodes the result may have, and the levels above its root: the
+    /// list run's result is a part of a plan.
     pub most_nodes: usize,
+    pub above: u32,
 }
 
 impl Measuring<'_> {
@@ -62,7 +65,7 @@ impl Measuring<'_> {
     /// which starts at `build`; or 13, 14, 15 in this order.
     pub fn result(mut self, build: usize) -> Result<(usize, usize), Refusal> {
         let whole = self.sequence(build, self.code.len())?;
-        if whole.depth > DEPTH as u32 {
+        if self.above + whole.depth > DEPTH as u32 {
             return Err(Refusal::ResultTooDeep);
         }
         // Bound variables lie below the depth.

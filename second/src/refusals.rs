@@ -3,7 +3,7 @@
 /// The number of a call that was not refused.
 pub const DONE: u32 = 0;
 
-/// Why a call is refused; the discriminant is document 01's number.
+/// Why a call is refused; the discriminant is the documents' number.
 #[derive(Clone, Copy, Debug, PartialEq, Eq)]
 #[repr(u32)]
 pub enum Refusal {
@@ -24,10 +24,12 @@ pub enum Refusal {
     ResultIndexTooHigh = 15,
     WorkingTableShort = 16,
     BadFile = 17,
+    /// More rules or rewrites than a list run takes.
+    ListTooLong = 37,
 }
 
 impl Refusal {
-    /// Document 01's number.
+    /// The documents' number.
     pub fn number(self) -> u32 {
         self as u32
     }

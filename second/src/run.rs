@@ -38,19 +38,21 @@ fn apply(
         }
     })?;
     let mut matching = Matching::new(subject);
-    let build = match_part(code, &mut matching)?;
+    let build = match_part(code, 0, &mut matching).ok_or(Refusal::MatchFails)?;
     let most_nodes = RESULT_NODES.min(result.len() / NODE_WORDS);
-    let measuring = Measuring { code, subject, matching: &matching, links, places, most_nodes };
+    let (matching, above) = (&matching, 0);
+    let measuring = Measuring { code, subject, matching, links, places, most_nodes, above };
     let (nodes, last) = measuring.result(build)?;
-    Building::new(code, subject, &matching, (links, places), result).result(nodes, last);
+    Building::new(code, subject, matching, (links, places), result).result(nodes, last);
     Ok(NODE_WORDS * nodes)
 }
 
-/// Executes the match part, or refuses with 12; gives the place of the build part.
-fn match_part(code: &[u32], matching: &mut Matching) -> Result<usize, Refusal> {
-    let mut at = 0;
+/// Executes the match part from an instruction on; gives the place of the build
+/// part, or none if an instruction fails.
+pub fn match_part(code: &[u32], from: usize, matching: &mut Matching) -> Option<usize> {
+    let mut at = from;
     while code[at] <= EQI {
-        at = matching.exec(code, at).ok_or(Refusal::MatchFails)?;
+        at = matching.exec(code, at)?;
     }
-    Ok(at)
+    Some(at)
 }

@@ -7,7 +7,7 @@ mod model;
 use model::seeds;
 use model::terms::{accept_rule, accept_subject};
 use second::seed::*;
-use second::{check, compile, read, run, watch, Answer, ReadAnswer};
+use second::{check, compile, list_run, read, run, watch, Answer, ListAnswer, ReadAnswer};
 
 const GUARD: u32 = 0xA5A5_5A5A;
 const OLD: u32 = 0x1234_5678;
@@ -81,6 +81,17 @@ fn run_keeps(code: &[u32], subject: &[u32], rng: &mut Rng) {
     }
 }
 
+fn list_run_keeps(rules: &[u32], subject: &[u32], rng: &mut Rng) {
+    let (mut work, mut result) = (Lent::new(length(rng, 16_384)), Lent::new(length(rng, 12)));
+    let rewrites = *rng.pick(&[0, 1, 5, 1_000, 1_001]);
+    let answer = list_run(rules, subject, rewrites, work.table(), result.table());
+    assert!(work.zeros() && result.kept_behind(answer.words as usize));
+    if answer.number != 0 {
+        assert_eq!(answer, ListAnswer { number: answer.number, words: 0, rewrites: 0, normal: 0 });
+    }
+    assert!(answer.rewrites <= rewrites && answer.normal <= 1);
+}
+
 #[test]
 fn seeded_cases_in_tables_of_every_length() {
     for seed in seeds(20_000) {
@@ -99,6 +110,8 @@ fn seeded_cases_in_tables_of_every_length() {
         }
         compile_keeps(&rule.left, &rule.right, &mut rng);
         run_keeps(&foreign.code, &foreign.subject, &mut rng);
+        let list = [&[foreign.code.len() as u32], &foreign.code[..]].concat();
+        list_run_keeps(&list, &foreign.subject, &mut rng);
     }
 }
 
@@ -124,6 +137,8 @@ fn noise_is_refused_and_never_panics() {
         compile_keeps(&left, &right, &mut rng);
         run_keeps(&left, &right, &mut rng);
         run_keeps(&[2, 8, 0, 0], &right, &mut rng);
+        list_run_keeps(&left, &right, &mut rng);
+        list_run_keeps(&[4, 2, 8, 0, 0], &right, &mut rng);
     }
 }
 

@@ -1,8 +1,9 @@
-//! The readings of open-points.md, items 1 to 17, as far as they show outside.
+//! The readings of open-points.md, items 1 to 18, as far as they show outside.
 
 use second::limits::FILE_BYTES;
 use second::seed::{edge_file, file_of, Rng, Term};
-use second::{check, compile, plan_apply, read, run, watch, Answer, WatchAnswer};
+use second::{check, compile, list_run, plan_apply, read, run, watch};
+use second::{Answer, ListAnswer, WatchAnswer};
 
 /// F, a symbol without arguments.
 const LEAF: [u32; 2] = [65_536, 0];
@@ -217,4 +218,98 @@ fn item_17_counts_are_checked_before_any_word_is_written() {
             }
         }
     }
+}
+
+/// A list run with room for all: number, words, rewrites, normal.
+fn listed(rules: &[u32], subject: &[u32], rewrites: u32) -> [u32; 4] {
+    listed_in(rules, subject, rewrites, 16_384, 8_192)
+}
+
+fn listed_in(rules: &[u32], subject: &[u32], rewrites: u32, work: usize, words: usize) -> [u32; 4] {
+    let (mut work, mut result) = (vec![3; work], vec![3; words]);
+    let ListAnswer { number, words, rewrites, normal } =
+        list_run(rules, subject, rewrites, &mut work, &mut result);
+    assert!(work.iter().all(|word| *word == 0));
+    assert!(number == 0 || result.iter().all(|word| *word == 3));
+    [number, words, rewrites, normal]
+}
+
+/// F to G, where both have no arguments: IS 0 0, CELL 1 0.
+const F_TO_G: [u32; 7] = [6, 0, 0, 0, 8, 1, 0];
+/// The same back.
+const G_TO_F: [u32; 7] = [6, 0, 1, 0, 8, 0, 0];
+/// IS 2 1, SET, NEXT, PUSHI 0 twice, CELL 3 2: H(Z) to K(Z, Z).
+const H_DOUBLES: [u32; 17] = [16, 0, 2, 1, 4, 2, 13, 0, 64, 0, 13, 0, 64, 0, 8, 3, 2];
+
+#[test]
+fn item_18_rules_and_rewrites_are_counted_first() {
+    let rules = |count: usize| F_TO_G.repeat(count);
+    assert_eq!(listed(&rules(32), &LEAF, 9), [0, 2, 1, 1]);
+    assert_eq!(listed(&rules(33), &LEAF, 9), [37, 0, 0, 0]);
+    // The last one cut: counted, and bad.
+    assert_eq!(listed(&rules(32)[..32 * 7 - 1], &LEAF, 9), [11, 0, 0, 0]);
+    assert_eq!(listed(&rules(33)[..33 * 7 - 1], &LEAF, 9), [37, 0, 0, 0]);
+    assert_eq!(listed(&[&rules(32)[..], &[u32::MAX]].concat(), &LEAF, 9), [37, 0, 0, 0]);
+    assert_eq!(listed(&rules(1), &LEAF, 1_001), [37, 0, 0, 0]);
+    // 37, 16, 11, then the subject.
+    let bad = [1, 99];
+    assert_eq!(listed_in(&rules(33), &[], 0, 16_383, 0), [37, 0, 0, 0]);
+    assert_eq!(listed_in(&bad, &[], 0, 16_383, 0), [16, 0, 0, 0]);
+    assert_eq!(listed_in(&bad, &[], 0, 16_384, 0), [11, 0, 0, 0]);
+    assert_eq!(listed_in(&rules(1), &[], 0, 16_384, 0), [1, 0, 0, 0]);
+    assert_eq!(listed(&rules(1), &vec![0; 8_193], 0), [2, 0, 0, 0]);
+    assert_eq!(listed(&rules(1), &Term::chain(1, 64, Term::leaf(0)).words(), 0), [3, 0, 0, 0]);
+    assert_eq!(listed(&rules(1), &Term::Meta(0, vec![]).words(), 0), [4, 0, 0, 0]);
+}
+
+#[test]
+fn item_18_no_rule_and_a_rule_of_no_words() {
+    assert_eq!(listed(&[], &LEAF, 9), [0, 2, 0, 1]);
+    assert_eq!(listed(&[], &LEAF, 0), [0, 2, 0, 1]);
+    assert_eq!(listed(&[0], &LEAF, 9), [11, 0, 0, 0]);
+    assert_eq!(listed(&[&F_TO_G[..], &[0]].concat(), &LEAF, 9), [11, 0, 0, 0]);
+}
+
+/// When the number is used up the last plan is still looked at, but the plan
+/// that one more rewrite would make is not in the sequence.
+#[test]
+fn item_18_the_last_plan_is_looked_at() {
+    assert_eq!(listed(&F_TO_G, &LEAF, 0), [0, 2, 0, 0]);
+    assert_eq!(listed(&F_TO_G, &LEAF, 1), [0, 2, 1, 1]);
+    let both = [F_TO_G, G_TO_F].concat();
+    assert_eq!(listed(&both, &LEAF, 7), [0, 2, 7, 0]);
+    // H(H(C)): the second plan has five nodes, the third one, which is not made, seven.
+    let h = |term| Term::Sym(2, vec![term]);
+    let plan = h(h(Term::leaf(9))).words();
+    assert_eq!(listed_in(&H_DOUBLES, &plan, 1, 16_384, 10), [0, 10, 1, 0]);
+    assert_eq!(listed_in(&H_DOUBLES, &plan, 2, 16_384, 10), [13, 0, 0, 0]);
+}
+
+#[test]
+fn item_18_limits_are_read_over_each_plan() {
+    // A subject over half the result table, with no rewrite at all.
+    let plan = Term::chain(5, 4, Term::leaf(6)).words();
+    assert_eq!(listed_in(&[], &plan, 0, 16_384, 10), [0, 10, 0, 1]);
+    assert_eq!(listed_in(&[], &plan, 0, 16_384, 9), [13, 0, 0, 0]);
+    // K(X, Y) to X brings the plan down again, but a plan between did not fit.
+    let k_takes = [11, 0, 3, 2, 4, 2, 4, 2, 13, 1, 64, 0];
+    let both = [&H_DOUBLES[..], &k_takes].concat();
+    let h = |term| Term::Sym(2, vec![term]);
+    let plan = h(Term::leaf(9)).words();
+    assert_eq!(listed_in(&both, &plan, 5, 16_384, 6), [0, 2, 2, 1]);
+    assert_eq!(listed_in(&both, &plan, 5, 16_384, 5), [13, 0, 0, 0]);
+}
+
+/// The first node and the first rule there, even where that breaks a limit
+/// that another node or rule would not.
+#[test]
+fn item_18_the_first_node_and_rule_decide() {
+    // H(C) doubles before F, its brother, could become G; the first rule wins at H.
+    let h_to_g = [7, 0, 2, 1, 2, 8, 1, 0];
+    let plan = Term::Sym(7, vec![Term::Sym(2, vec![Term::leaf(9)]), Term::leaf(0)]).words();
+    let growing = [&F_TO_G[..], &H_DOUBLES, &h_to_g].concat();
+    assert_eq!(listed_in(&growing, &plan, 1, 16_384, 8), [13, 0, 0, 0]);
+    let shrinking = [&F_TO_G[..], &h_to_g, &H_DOUBLES].concat();
+    assert_eq!(listed_in(&shrinking, &plan, 1, 16_384, 8), [0, 6, 1, 0]);
+    assert_eq!(listed_in(&shrinking, &plan, 2, 16_384, 8), [0, 6, 2, 1]);
 }

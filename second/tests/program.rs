@@ -1,7 +1,8 @@
-//! The program plan_apply as a process.
+//! The programs plan_apply and rewrite as processes.
 
-use std::fs::File;
+use std::fs::{self, File};
 use std::io::Write;
+use std::path::Path;
 use std::process::{Command, Stdio};
 
 use second::limits::FILE_BYTES;
@@ -53,4 +54,28 @@ fn is_the_library_call_on_seeded_files() {
         }
         assert_eq!(line_of(&file), plan_apply(&file));
     }
+}
+
+/// What stands beside the lists of examples/rewrite is what this program says of them.
+#[test]
+fn rewrites_the_examples() {
+    let root = Path::new(env!("CARGO_MANIFEST_DIR")).join("..");
+    let folder = Path::new("examples/rewrite");
+    let lists = fs::read_dir(root.join(folder)).expect("the lists' folder");
+    let mut tried = 0;
+    for list in lists {
+        let list = folder.join(list.expect("a list").file_name());
+        let text = |name: &str| fs::read_to_string(root.join(&list).join(name)).unwrap_or_default();
+        let rule = |number| list.join(format!("{number}.rule"));
+        let rules = (1..).map(rule).take_while(|rule| root.join(rule).exists());
+        let program = &mut Command::new(env!("CARGO_BIN_EXE_rewrite"));
+        let run = program.current_dir(&root).arg(text("rewrites").trim()).args(rules);
+        let output = run.output().expect("the program runs");
+        let (line, error) = (text("line"), text("error"));
+        assert_eq!(String::from_utf8_lossy(&output.stdout), line, "{list:?}");
+        assert_eq!(String::from_utf8_lossy(&output.stderr), error, "{list:?}");
+        assert_eq!(output.status.code(), Some(i32::from(line.is_empty())), "{list:?}");
+        tried += 1;
+    }
+    assert_eq!(tried, 6);
 }

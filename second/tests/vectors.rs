@@ -6,6 +6,7 @@ mod model;
 use std::collections::BTreeSet;
 use std::process::Command;
 
+use model::list;
 use model::machine::{run as model_run, Machine, Stop};
 use model::passing::passes;
 use model::terms::{self, accept_rule, accept_subject};
@@ -107,6 +108,16 @@ fn judge_run(numbers: &mut Numbers) -> u32 {
     numbers.arrow();
     let expected = if work < 8_192 { Err(16) } else { applied(&code, &subject, result) };
     expect_written(numbers, &expected, fill, &[0, 0])
+}
+
+fn judge_list_run(numbers: &mut Numbers) -> u32 {
+    let (rules, subject, rewrites) = (numbers.table(), numbers.table(), numbers.next());
+    let ((work, _), (result, fill)) = (numbers.lent(), numbers.lent());
+    numbers.arrow();
+    let expected = list::list_run(&rules, &subject, rewrites, [work, result]);
+    let (made, normal) = expected.as_ref().map_or((0, false), |(_, made, normal)| (*made, *normal));
+    let words = expected.map(|(plan, ..)| terms::encode(&plan));
+    expect_written(numbers, &words, fill, &[made, normal.into(), 0, 0])
 }
 
 fn judge_watch(numbers: &mut Numbers) -> u32 {
@@ -214,6 +225,7 @@ fn every_line_holds_and_every_refusal_occurs() {
                 "check" => judge_check(&mut numbers),
                 "run" => judge_run(&mut numbers),
                 "watch" => judge_watch(&mut numbers),
+                "list_run" => judge_list_run(&mut numbers),
                 "read" => judge_read(&mut numbers),
                 "plan_apply" => judge_plan_apply(&mut numbers),
                 other => panic!("{other}"),
@@ -221,11 +233,12 @@ fn every_line_holds_and_every_refusal_occurs() {
             numbers.end();
             met.insert((call, number));
         }
-        let all: [(&str, &[u32]); 6] = [
+        let all: [(&str, &[u32]); 7] = [
             ("compile", &[0, 1, 2, 3, 5, 6, 7, 8, 9, 10]),
             ("check", &[0, 11]),
             ("run", &[0, 1, 2, 3, 4, 11, 12, 13, 14, 15, 16]),
             ("watch", &[0, 1, 2, 3, 4, 11, 12]),
+            ("list_run", &[0, 1, 2, 3, 4, 11, 13, 14, 15, 16, 37]),
             ("read", &[0, 17]),
             ("plan_apply", &[0, 1, 2, 3, 4, 5, 6, 7, 8, 9, 12, 13, 14, 15, 17]),
         ];

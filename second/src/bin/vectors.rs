@@ -7,11 +7,11 @@ use std::fmt::Write as _;
 use std::io::{self, BufWriter, Write};
 
 use second::limits::{
-    CODE_WORDS, FILE_SIDE_WORDS, FILE_SUBJECT_WORDS, NODE_WORDS, RESULT_NODES, SUBJECT_NODES,
-    WORKING_WORDS,
+    CODE_WORDS, FILE_SIDE_WORDS, FILE_SUBJECT_WORDS, LIST_WORKING_WORDS, NODE_WORDS, RESULT_NODES,
+    REWRITES, SUBJECT_NODES, WORKING_WORDS,
 };
 use second::seed::*;
-use second::{check, compile, plan_apply, read, run, watch};
+use second::{check, compile, list_run, plan_apply, read, run, watch};
 
 fn main() -> io::Result<()> {
     let mut numbers = std::env::args().skip(1).map(|argument| argument.parse::<u64>());
@@ -36,7 +36,7 @@ fn main() -> io::Result<()> {
 }
 
 /// How many kinds of vectors come in turn.
-const KINDS: u64 = 24;
+const KINDS: u64 = 27;
 /// Words of the largest result.
 const RESULT_WORDS: usize = NODE_WORDS * RESULT_NODES;
 /// What a lent table holds before the call, unless it is told otherwise.
@@ -78,7 +78,10 @@ impl Vector {
             16 => self.run_damaged(),
             17..=19 => self.make_watch(),
             20..=21 => self.make_read(),
-            _ => self.make_plan_apply(),
+            22..=23 => self.make_plan_apply(),
+            24 => self.make_list_run(),
+            25 => self.list_run_limit(),
+            _ => self.list_run_refused(),
         }
     }
 
@@ -269,6 +272,73 @@ impl Vector {
         self.plan_apply(&file);
     }
 
+    /// Rules that feed each other, or code that no compiler wrote.
+    fn make_list_run(&mut self) {
+        let (codes, plan) = self.list();
+        let rewrites = self.rng.below(7) as u32;
+        let more = self.rng.below(40);
+        let result = *self.rng.pick(&[RESULT_WORDS, plan.len(), plan.len() + more]);
+        self.list_run(&table_of(&codes), &plan, rewrites, LIST_WORKING_WORDS, result);
+    }
+
+    fn list(&mut self) -> (Vec<Vec<u32>>, Vec<u32>) {
+        let nodes = self.rng.between(1, 14);
+        let plan = feeding_plan(&mut self.rng, nodes);
+        if self.turn % 4 < 3 {
+            let rules = feeding_rules(&mut self.rng, 3);
+            return (rules.iter().map(code_of).collect(), plan.words());
+        }
+        let made: Vec<ForeignCode> = (0..2).map(|_| foreign_code(&mut self.rng)).collect();
+        let terms: Vec<Term> = made.iter().map(|made| Term::of_words(&made.subject)).collect();
+        let plan = planted(&mut self.rng, &plan, &terms);
+        (made.into_iter().map(|made| made.code).collect(), plan.words())
+    }
+
+    /// A limit of the result met after some rewrites, and broken by one more.
+    fn list_run_limit(&mut self) {
+        let f = |argument| Term::Sym(1, vec![argument]);
+        let z = || Term::Meta(7, Vec::new());
+        let times = self.rng.between(1, 4);
+        let more = self.turn / 3 % 2;
+        let rewrites = (times + more) as u32;
+        // Two nodes more a time, a level more a time, an index one higher a time.
+        let (right, plan, words) = match self.turn % 3 {
+            0 => {
+                let right = Term::Sym(2, vec![Term::leaf(3), f(z())]);
+                (right, f(Term::leaf(4)), 2 * (2 + 2 * times))
+            }
+            1 => {
+                let plan = Term::chain(5, 62 - times, f(Term::leaf(4)));
+                (Term::Sym(2, vec![f(z())]), plan, RESULT_WORDS)
+            }
+            _ => (f(Term::abst(z())), f(Term::Var(65_535 - times as u32)), RESULT_WORDS),
+        };
+        let code = code_of(&Rule::of(&f(z()), &right));
+        self.list_run(&table_of(&[code]), &plan.words(), rewrites, LIST_WORKING_WORDS, words);
+    }
+
+    /// Each refusal before the first plan is made, alone and with a later one.
+    fn list_run_refused(&mut self) {
+        let (codes, mut plan) = self.list();
+        let mut table = table_of(&codes);
+        let (mut rewrites, mut work) = (self.rng.below(4) as u32, LIST_WORKING_WORDS);
+        let turn = self.turn / 5;
+        match self.turn % 5 {
+            0 => plan = self.bad_subject(turn),
+            1 => work = *self.rng.pick(&[0, WORKING_WORDS, LIST_WORKING_WORDS - 1]),
+            2 => rewrites = *self.rng.pick(&[REWRITES + 1, 65_536, u32::MAX]),
+            3 => table = [4, 2, 8, 3, 0].repeat(32 + turn % 2),
+            _ => table.truncate(self.rng.below(table.len())),
+        }
+        if self.turn % 5 == 3 && turn % 4 > 1 {
+            table.pop();
+        }
+        if turn % 3 == 2 {
+            plan = self.bad_subject(turn);
+        }
+        self.list_run(&table, &plan, rewrites, work, 100);
+    }
+
     // The calls, and how their lines are written.
 
     fn begin(&mut self, call: &'static str) {
@@ -354,6 +424,26 @@ impl Vector {
         self.put([answer.current, answer.entries, answer.finished, answer.node]);
     }
 
+    fn list_run(
+        &mut self,
+        table: &[u32],
+        subject: &[u32],
+        rewrites: u32,
+        work: usize,
+        result: usize,
+    ) {
+        self.begin("list_run");
+        self.table(table);
+        self.table(subject);
+        self.put([rewrites]);
+        let (mut work, mut result) = (self.lend(work), self.lend(result));
+        let answer = list_run(table, subject, rewrites, &mut work.words, &mut result.words);
+        self.arrow(answer.number);
+        self.put([answer.words, answer.rewrites, answer.normal]);
+        self.after(&work, 0, 0);
+        self.after(&result, answer.words, result.fill);
+    }
+
     fn read(&mut self, file: &[u8], lent: [usize; 3]) {
         self.begin("read");
         self.bytes(file);
@@ -385,6 +475,11 @@ fn code_of(rule: &Rule) -> Vec<u32> {
     let answer = compile(&rule.left, &rule.right, &mut code);
     code.truncate(answer.words as usize);
     code
+}
+
+/// A list's table: each rule's word count and code.
+fn table_of(codes: &[Vec<u32>]) -> Vec<u32> {
+    codes.iter().flat_map(|code| [&[code.len() as u32], &code[..]].concat()).collect()
 }
 
 /// How many words the result has, or a few if there is none.

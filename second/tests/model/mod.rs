@@ -3,6 +3,7 @@
 //! is the paper's ML written down in Rust.
 #![allow(dead_code)]
 
+pub mod list;
 pub mod machine;
 pub mod passing;
 pub mod terms;

@@ -20,7 +20,7 @@ enum { STANDARD_INPUT, STANDARD_OUTPUT };
 enum { ALL_MADE, CUT_SHORT, TOO_LONG, NO_SUCH_CALL };
 enum { ANSWER_WORDS = 5, AREAS = 4, WORKING_AREA = 2, BATCH_WORDS = 1 << 22 };
 
-enum call { CALL_STACK, CALL_READ, CALL_COMPILE, CALL_CHECK, CALL_RUN, CALL_WATCH };
+enum call { CALL_STACK, CALL_READ, CALL_COMPILE, CALL_CHECK, CALL_RUN, CALL_WATCH, CALL_LIST_RUN };
 
 /* Of the stack that calls are made on; and what stands there until it is written to. */
 enum { STACK_BYTES = 1 << 17, PAINT = 0xA5 };
@@ -88,6 +88,14 @@ static void make_watch(struct frame *frame, void *lent[AREAS])
     answer(frame, watch.number, watch.current, watch.entries, watch.finished, watch.node);
 }
 
+static void make_list_run(struct frame *frame, void *lent[AREAS])
+{
+    const struct area *rules = &frame->areas[0], *subject = &frame->areas[1], *working = &frame->areas[2], *result = &frame->areas[3];
+    struct reed_list_answer run = reed_list_run(lent[0], rules->length, lent[1], subject->length, frame->argument, lent[2], working->length,
+                                                lent[3], result->length);
+    answer(frame, run.number, run.words, run.rewrites, run.normal, 0);
+}
+
 /*
  * For bench/: paints the stack that the calls after this one take, or tells how many bytes from its top they have written to. It is the same
  * memory each time, though no rule of C says so.
@@ -123,6 +131,9 @@ static int make(struct frame *frame, void *lent[AREAS])
     case CALL_WATCH:
         make_watch(frame, lent);
         return 1;
+    case CALL_LIST_RUN:
+        make_list_run(frame, lent);
+        return 1;
     default:
         return 0;
     }
@@ -139,6 +150,11 @@ static size_t lent_bytes(const struct frame *frame, int area)
     return frame->areas[area].length * unit(frame, area);
 }
 
+static int has_working_table(const struct frame *frame)
+{
+    return frame->call == CALL_RUN || frame->call == CALL_LIST_RUN;
+}
+
 /*
  * Puts what is lent into blocks of just that length. Only the working table may hold anything, so its block is left as it comes: memcheck
  * then tells of a run that looks at what stood there, or leaves any of it.
@@ -148,7 +164,7 @@ static void put_in_blocks(const struct frame *frame, void *lent[AREAS], void *bl
     for (int area = 0; area < AREAS; area++) {
         blocks[area] = malloc(lent_bytes(frame, area));
         if (!blocks[area]) abort();
-        if (frame->call == CALL_RUN && area == WORKING_AREA) continue;
+        if (has_working_table(frame) && area == WORKING_AREA) continue;
         memcpy(blocks[area], lent[area], lent_bytes(frame, area));
     }
 }

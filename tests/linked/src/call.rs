@@ -17,7 +17,7 @@ pub trait Call: Clone + PartialEq {
     /// The lent memory, in the order of the call's parameters; at most four areas.
     fn areas(&mut self) -> Vec<&mut dyn Area>;
 
-    /// The one number that is no lent memory (watch's i).
+    /// The one number that is no lent memory (watch's i, the list run's rewrites).
     fn argument(&self) -> u32 {
         0
     }

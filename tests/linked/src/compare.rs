@@ -6,7 +6,7 @@ use std::ops::Range;
 
 use second::seed::Rng;
 
-use crate::call::{difference, Call};
+use crate::call::{difference, Answer, Call};
 use crate::engine::Engine;
 
 /// One way to make calls.
@@ -16,6 +16,8 @@ pub struct Kind<C> {
     numbers: &'static [u32],
     /// But for these, which may come.
     rare: &'static [u32],
+    /// What must be so of some answer.
+    reached: &'static [fn(&Answer) -> bool],
     /// How many seeds.
     seeds: u64,
     /// The calls of a seed.
@@ -29,12 +31,17 @@ impl<C> Kind<C> {
         seeds: u64,
         calls: fn(&mut Rng) -> Vec<C>,
     ) -> Kind<C> {
-        Kind { name, numbers, rare: &[], seeds, calls }
+        Kind { name, numbers, rare: &[], reached: &[], seeds, calls }
     }
 
     /// The same where these numbers, too seldom to be counted on, may come too.
     pub const fn or_rarely(self, rare: &'static [u32]) -> Kind<C> {
         Kind { rare, ..self }
+    }
+
+    /// The same where each of these must hold of some answer.
+    pub const fn reaching(self, reached: &'static [fn(&Answer) -> bool]) -> Kind<C> {
+        Kind { reached, ..self }
     }
 }
 
@@ -62,7 +69,12 @@ pub fn compare<C: Call>(kinds: &[Kind<C>]) -> Tally {
     let mut engine = Engine::start().expect("the library can be reached");
     let mut tally = Tally { engine: engine.name(), kinds: Vec::new() };
     for kind in kinds {
-        let numbers = compare_kind(&mut engine, kind);
+        let answers = compare_kind(&mut engine, kind);
+        for (number, reached) in kind.reached.iter().enumerate() {
+            let reaches = share() > 1 || answers.iter().any(reached);
+            assert!(reaches, "'{}': no answer is as its condition {number} says", kind.name);
+        }
+        let numbers = numbers_of(&answers);
         let often = |number: &u32| kind.numbers.contains(number) || !kind.rare.contains(number);
         let came: Vec<u32> = numbers.keys().copied().filter(often).collect();
         // In a share of the seeds a number may fail to come.
@@ -74,40 +86,47 @@ pub fn compare<C: Call>(kinds: &[Kind<C>]) -> Tally {
     tally
 }
 
-fn compare_kind<C: Call>(engine: &mut Engine, kind: &Kind<C>) -> Numbers {
+fn numbers_of(answers: &[Answer]) -> Numbers {
     let mut numbers = Numbers::new();
+    for answer in answers {
+        *numbers.entry(answer[0]).or_default() += 1;
+    }
+    numbers
+}
+
+fn compare_kind<C: Call>(engine: &mut Engine, kind: &Kind<C>) -> Vec<Answer> {
+    let mut answers = Vec::new();
     let mut cases = Vec::new();
     let seeds = seeds(kind.seeds);
     for seed in seeds.clone() {
         let calls = (kind.calls)(&mut Rng::new(seed)).into_iter().enumerate();
         cases.extend(calls.map(|(place, call)| Case { seed, place, call }));
         if cases.len() >= TOGETHER || seed + 1 == seeds.end {
-            compare_cases(engine, kind.name, &mut cases, &mut numbers);
+            answers.extend(compare_cases(engine, kind.name, &mut cases));
         }
     }
-    numbers
+    answers
 }
 
-/// Makes the cases on both sides, compares and counts them; none is left.
+/// Makes the cases on both sides and compares them; none is left. Gives the answers.
 fn compare_cases<C: Call>(
     engine: &mut Engine,
     kind: &str,
     cases: &mut Vec<Case<C>>,
-    numbers: &mut Numbers,
-) {
+) -> Vec<Answer> {
     let mut calls: Vec<C> = cases.iter().map(|case| case.call.clone()).collect();
     let answers = engine.make(&mut calls).unwrap_or_else(|why| {
         let (first, last) = (cases[0].seed, cases[cases.len() - 1].seed);
         panic!("'{kind}', one of the seeds {first} to {last}: {why}");
     });
-    for ((call, answer), mut case) in calls.iter().zip(answers).zip(cases.drain(..)) {
+    for ((call, &answer), mut case) in calls.iter().zip(&answers).zip(cases.drain(..)) {
         let expected = case.call.make_second();
         if let Some(what) = difference((call, answer), (&case.call, expected)) {
             let Case { seed, place, .. } = case;
             panic!("'{kind}', seed {seed}, call {place}: {what}\n(SEED_FROM={seed} repeats it)");
         }
-        *numbers.entry(answer[0]).or_default() += 1;
     }
+    answers
 }
 
 /// The seeds of a kind: so many from 0 on. As in second's tests, SEED_FROM gives the first one and

@@ -14,6 +14,7 @@ pub mod compare;
 pub mod compile;
 pub mod engine;
 pub mod guarded;
+pub mod list_run;
 pub mod numbers;
 pub mod read;
 pub mod run;

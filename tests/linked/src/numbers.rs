@@ -1,4 +1,4 @@
-//! Document 01's numbers, as tests expect them.
+//! The documents' numbers, as tests expect them.
 
 pub const DONE: u32 = 0;
 pub const TABLE_NOT_GOOD: u32 = 1;
@@ -18,3 +18,4 @@ pub const RESULT_TOO_DEEP: u32 = 14;
 pub const RESULT_INDEX_TOO_HIGH: u32 = 15;
 pub const WORKING_TABLE_SHORT: u32 = 16;
 pub const BAD_FILE: u32 = 17;
+pub const LIST_TOO_LONG: u32 = 37;

@@ -1,4 +1,4 @@
-//! include/reedbiscuit.h says document 01's numbers.
+//! include/reedbiscuit.h says the documents' numbers.
 
 use second::limits::*;
 
@@ -14,12 +14,16 @@ fn constants() -> Vec<(&'static str, usize)> {
     HEADER.lines().filter_map(constant).collect()
 }
 
+/// Document 01's, and those of document 02 that have landed.
+const NUMBERS: usize = 19;
+
 #[test]
-fn the_numbers_given_back_are_0_to_17_in_order() {
+fn the_numbers_given_back_are_those_of_the_documents_in_order() {
     let constants = constants();
-    let numbers: Vec<usize> = constants.iter().take(18).map(|(_, number)| *number).collect();
-    assert_eq!(numbers, Vec::from_iter(0..=17));
-    assert_eq!((constants[0].0, constants[17].0), ("REED_DONE", "REED_BAD_FILE"));
+    let numbers: Vec<usize> = constants.iter().take(NUMBERS).map(|(_, number)| *number).collect();
+    assert_eq!(numbers, Vec::from_iter((0..=17).chain([37])));
+    let named = [constants[0].0, constants[17].0, constants[18].0];
+    assert_eq!(named, ["REED_DONE", "REED_BAD_FILE", "REED_LIST_TOO_LONG"]);
 }
 
 #[test]
@@ -42,6 +46,9 @@ fn the_limits_are_those_of_the_second_implementation() {
         ("REED_RESULT_WORDS", NODE_WORDS * RESULT_NODES),
         ("REED_INDEX", INDEX as usize),
         ("REED_WORKING_WORDS", WORKING_WORDS),
+        ("REED_LIST_RULES", LIST_RULES),
+        ("REED_REWRITES", REWRITES as usize),
+        ("REED_LIST_WORKING_WORDS", LIST_WORKING_WORDS),
     ];
-    assert_eq!(constants()[18..], limits);
+    assert_eq!(constants()[NUMBERS..], limits);
 }

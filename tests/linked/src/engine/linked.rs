@@ -1,7 +1,7 @@
 //! The library linked into this process: include/reedbiscuit.h, call by call, over slices.
 #![allow(unsafe_code)]
 
-use second::{Answer, ReadAnswer, WatchAnswer};
+use second::{Answer, ListAnswer, ReadAnswer, WatchAnswer};
 
 #[repr(C)]
 struct ReedReadAnswer {
@@ -24,6 +24,14 @@ struct ReedWatchAnswer {
     entries: u32,
     finished: u32,
     node: u32,
+}
+
+#[repr(C)]
+struct ReedListAnswer {
+    number: u32,
+    words: u32,
+    rewrites: u32,
+    normal: u32,
 }
 
 extern "C" {
@@ -67,6 +75,18 @@ extern "C" {
         subject_length: usize,
         i: u32,
     ) -> ReedWatchAnswer;
+
+    fn reed_list_run(
+        rules: *const u32,
+        rules_length: usize,
+        subject: *const u32,
+        subject_length: usize,
+        rewrites: u32,
+        working: *mut u32,
+        working_length: usize,
+        result: *mut u32,
+        result_length: usize,
+    ) -> ReedListAnswer;
 }
 
 #[inline]
@@ -135,4 +155,30 @@ pub fn watch(code: &[u32], subject: &[u32], i: u32) -> WatchAnswer {
         unsafe { reed_watch(code.as_ptr(), code.len(), subject.as_ptr(), subject.len(), i) };
     let ReedWatchAnswer { number, current, entries, finished, node } = answer;
     WatchAnswer { number, current, entries, finished, node }
+}
+
+#[inline]
+pub fn list_run(
+    rules: &[u32],
+    subject: &[u32],
+    rewrites: u32,
+    working: &mut [u32],
+    result: &mut [u32],
+) -> ListAnswer {
+    // Sound: as for `read`.
+    let answer = unsafe {
+        reed_list_run(
+            rules.as_ptr(),
+            rules.len(),
+            subject.as_ptr(),
+            subject.len(),
+            rewrites,
+            working.as_mut_ptr(),
+            working.len(),
+            result.as_mut_ptr(),
+            result.len(),
+        )
+    };
+    let ReedListAnswer { number, words, rewrites, normal } = answer;
+    ListAnswer { number, words, rewrites, normal }
 }
