@@ -9,8 +9,8 @@ use lib.ListN.{length, take, replicate, length-replicate}
 use borrow.Author.Tests.{eq-eqb, ne-eqb}
 use Rattle.documents.specs.Limits.{planLimit, codeLimit, workingWords}
 use Rattle.documents.specs.Calls.{ReadAnswer, readCall, CompileAnswer, compileCall, RunAnswer, runCall, runLine, compileLine, planLine, readLine, planApply, fileSideWords, fileSubjectWords}
-use Rattle.reedbiscuit.specs.declared.ReedReadAnswer.{ReedReadAnswer}
-use Rattle.reedbiscuit.specs.declared.ReedAnswer.{ReedAnswer}
+use Rattle.answers.specs.declared.ReedReadAnswer.{ReedReadAnswer}
+use Rattle.answers.specs.declared.ReedAnswer.{ReedAnswer}
 use Rattle.reedbiscuit.specs.Answers.{Reads, Compiles}
 use Rattle.plan.specs.Program.{Planned, afterRun, afterCompile, afterRead, planned, Leaves}
 use Rattle.plan.proofs.Counted.{read-fits, compile-fits, run-fits}

@@ -7,7 +7,7 @@ use mathlib.Core.List.{List}
 use lib.Dec.{eqb}
 use lib.ListN.{take}
 use Rattle.documents.specs.Calls.{ReadAnswer, readCall, CompileAnswer, compileCall, RunAnswer, runCall}
-use Rattle.reedbiscuit.specs.declared.ReedAnswer.{ReedAnswer}
+use Rattle.answers.specs.declared.ReedAnswer.{ReedAnswer}
 use Rattle.reedbiscuit.specs.Answers.{runGiven}
 
 -- the line's number and word count, and the tables lent to compile and run, afterwards

@@ -3,12 +3,12 @@ pub mod line; // numbers in decimal
 
 use crate::line::NUMBER_BYTES;
 use crate::line::put_line;
+use answers::DONE;
+use answers::ReedAnswer;
 use instructions::limit::MOST_WORDS;
 use reader::SIDE_WORDS;
 use reader::SUBJECT_WORDS;
 use reader::WORD_BYTES;
-use reedbiscuit::DONE;
-use reedbiscuit::ReedAnswer;
 use reedbiscuit::reed_compile;
 use reedbiscuit::reed_read;
 use reedbiscuit::reed_run;

@@ -3,10 +3,11 @@ use mathlib.Core.Path.{_≡_, refl, sym, ap, _∙_}
 use Prim.Native.Nat.{ℕ}
 use mathlib.Core.List.{List}
 use Rattle.documents.specs.Calls.{ReadAnswer, CompileAnswer, RunAnswer, WatchAnswer}
-use Rattle.reedbiscuit.specs.declared.ReedReadAnswer.{ReedReadAnswer}
-use Rattle.reedbiscuit.specs.declared.ReedAnswer.{ReedAnswer}
-use Rattle.reedbiscuit.specs.declared.ReedWatchAnswer.{ReedWatchAnswer}
-use Rattle.reedbiscuit.specs.Answers.{readGiven, Reads, compileGiven, Compiles, Checks, runGiven, Runs, watchGiven, Watches}
+use Rattle.answers.specs.declared.ReedReadAnswer.{ReedReadAnswer}
+use Rattle.answers.specs.declared.ReedAnswer.{ReedAnswer}
+use Rattle.answers.specs.declared.ReedListAnswer.{ReedListAnswer}
+use Rattle.answers.specs.declared.ReedWatchAnswer.{ReedWatchAnswer}
+use Rattle.reedbiscuit.specs.Answers.{readGiven, Reads, compileGiven, Compiles, Checks, runGiven, Runs, ListRuns, watchGiven, Watches}
 
 -- a struct is what its fields are
 same-answer : (a b : ReedAnswer) → a .number ≡ b .number → a .words ≡ b .words → a ≡ b
@@ -59,3 +60,8 @@ watches-agree code subject i a b p q = go (p ∙ sym q)
     go : watchGiven a ≡ watchGiven b → a ≡ b
     go e =
         same-watch a b (ap (λ (x : WatchAnswer). x .number) e) (ap (λ (x : WatchAnswer). x .current) e) (ap (λ (x : WatchAnswer). x .entries) e) (ap (λ (x : WatchAnswer). x .finished) e) (ap (λ (x : WatchAnswer). x .node) e)
+
+pub list-runs-agree : (rules subject : List ℕ) (number : ℕ) (working result : List ℕ) (a b : ReedListAnswer) (working₁ result₁ working₂ result₂ : List ℕ)
+    → ListRuns rules subject number working result a working₁ result₁ → ListRuns rules subject number working result b working₂ result₂
+    → (a ≡ b) × (working₁ ≡ working₂) × (result₁ ≡ result₂)
+list-runs-agree rules subject number working result a b working₁ result₁ working₂ result₂ (p, q, r) (p′, q′, r′) = (p ∙ sym p′, q ∙ sym q′, r ∙ sym r′)

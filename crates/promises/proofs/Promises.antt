@@ -7,7 +7,7 @@ use Rattle.promises.proofs.Refused.{one-number, not-done, read-leaves, 
 use Rattle.promises.proofs.Passed.{passed-reads, passed-steps, passed-ends, run-fails, run-ends, watch-steps, watch-fails, watch-ends}
 use Rattle.promises.proofs.Translated.{code-passes, code-fits, compiles, ran-matches, only-one, ran-leaves, ran-limits}
 use Rattle.promises.proofs.Again.{run-given, run-again}
-use Rattle.promises.proofs.Agreeing.{reads-agree, compiles-agree, checks-agree, runs-agree, watches-agree}
+use Rattle.promises.proofs.Agreeing.{reads-agree, compiles-agree, checks-agree, runs-agree, watches-agree, list-runs-agree}
 
 pub demand-1 : Demand1
 demand-1 = record {
@@ -45,6 +45,7 @@ tight = record {
   checks = checks-agree;
   runs = runs-agree;
   watches = watches-agree;
+  lists = list-runs-agree;
   runFails = λ code subject working result c t p room e. ap (λ (a : RunAnswer). a .number) (run-fails code subject c t p working result room e);
   runEnds = λ code subject working result c t u env p room e. run-ends code subject c t p working result room u env e;
   watchSteps = λ code subject i c t p. watch-steps code subject c t p i;

@@ -1,6 +1,6 @@
 -- What we promise: the three demands (00-demands.md), sentence by sentence, and how tight the contracts are (document 01). The sentences speak of
 -- the five calls as documents/specs/Calls defines them; that reed_read .. reed_watch give just that is their contract (reedbiscuit/specs/Answers).
--- proofs/Promises proves each record.
+-- What is promised of the sixth call, the list run, is in ListPromises; its contract too is tight (`Tight.lists`). proofs/Promises proves each record.
 use mathlib.Core.Path.{_≡_}
 use mathlib.Core.Logic.{_⊎_, _↔_}
 use Prim.Native.Nat.{ℕ, _/_, _≤_, _<_, min}
@@ -20,10 +20,11 @@ use Rattle.documents.specs.Machine.{Entry, State, state, done, fails, noStep, r
 use Rattle.documents.specs.Translation.{compile}
 use Rattle.documents.specs.Numbers.{numberOf, answered, rule, ruleIn, subjectIn, resultFor}
 use Rattle.documents.specs.Calls.{atFront, readCall, compileCall, checkCall, runAnswer, runCall, counts, watchCall}
-use Rattle.reedbiscuit.specs.declared.ReedReadAnswer.{ReedReadAnswer}
-use Rattle.reedbiscuit.specs.declared.ReedAnswer.{ReedAnswer}
-use Rattle.reedbiscuit.specs.declared.ReedWatchAnswer.{ReedWatchAnswer}
-use Rattle.reedbiscuit.specs.Answers.{Reads, Compiles, Checks, Runs, Watches}
+use Rattle.answers.specs.declared.ReedReadAnswer.{ReedReadAnswer}
+use Rattle.answers.specs.declared.ReedAnswer.{ReedAnswer}
+use Rattle.answers.specs.declared.ReedListAnswer.{ReedListAnswer}
+use Rattle.answers.specs.declared.ReedWatchAnswer.{ReedWatchAnswer}
+use Rattle.reedbiscuit.specs.Answers.{Reads, Compiles, Checks, Runs, ListRuns, Watches}
 use Rattle.promises.specs.Order.{firstDue, readOrder, compileOrder, checkOrder, runOrder, watchOrder}
 
 -- ---- Demand 1
@@ -144,6 +145,9 @@ pub record Tight : Type 0 where
       → Runs code subject working result a working₁ result₁ → Runs code subject working result b working₂ result₂
       → (a ≡ b) × (working₁ ≡ working₂) × (result₁ ≡ result₂)
   pub watches : (code subject : List ℕ) (i : ℕ) (a b : ReedWatchAnswer) → Watches code subject i a → Watches code subject i b → a ≡ b
+  pub lists : (rules subject : List ℕ) (number : ℕ) (working result : List ℕ) (a b : ReedListAnswer) (working₁ result₁ working₂ result₂ : List ℕ)
+      → ListRuns rules subject number working result a working₁ result₁ → ListRuns rules subject number working result b working₂ result₂
+      → (a ≡ b) × (working₁ ≡ working₂) × (result₁ ≡ result₂)
   -- 'For all code that passes, whoever compiled it, the run's number, count and words are those of the paper's machine, under the order and limits
   -- above': 12 where it fails, and else what its finished term comes to.
   pub runFails : (code subject working result : List ℕ) (c : Program) (t : Term) → Passed code subject c t → workingWords ≤ length working

@@ -2,27 +2,16 @@
 -- and every lent word afterwards.
 use mathlib.Core.Path.{_≡_}
 use Prim.Native.Nat.{ℕ}
+use mathlib.Core.Bool.{cond}
 use mathlib.Core.List.{List}
-use Rattle.documents.specs.Numbers.{numberOf}
 use Rattle.documents.specs.Calls.{ReadAnswer, readCall, CompileAnswer, compileCall, checkCall, RunAnswer, runCall, WatchAnswer, watchCall}
-use Rattle.reader.specs.declared.Answer.{Answer}
-use Rattle.reader.specs.declared.Answer.the-variants as read
-use Rattle.compiler.specs.declared.Compiled.{Compiled}
-use Rattle.compiler.specs.declared.Compiled.the-variants as compiled
-use Rattle.runner.specs.declared.Ran.{Ran}
-use Rattle.runner.specs.declared.Ran.the-variants as ran
-use Rattle.watcher.specs.declared.Watched.{Watched}
-use Rattle.watcher.specs.declared.Watched.the-variants as watched
-use Rattle.reedbiscuit.specs.declared.ReedReadAnswer.{ReedReadAnswer}
-use Rattle.reedbiscuit.specs.declared.ReedAnswer.{ReedAnswer}
-use Rattle.reedbiscuit.specs.declared.ReedWatchAnswer.{ReedWatchAnswer}
+use Rattle.rewriting.specs.ListCall.{ListAnswer, listCall}
+use Rattle.answers.specs.declared.ReedReadAnswer.{ReedReadAnswer}
+use Rattle.answers.specs.declared.ReedAnswer.{ReedAnswer}
+use Rattle.answers.specs.declared.ReedListAnswer.{ReedListAnswer}
+use Rattle.answers.specs.declared.ReedWatchAnswer.{ReedWatchAnswer}
 
 -- ---- Read
-
--- 01's number of the reader's answer
-abbrev pub readNumber : Answer → ℕ
-readNumber (read.Words l r s) = 0
-readNumber (read.Refused w) = numberOf w
 
 -- the numbers of a struct, and the lent tables afterwards
 abbrev pub readGiven : ReedReadAnswer → List ℕ → List ℕ → List ℕ → ReadAnswer
@@ -34,11 +23,6 @@ abbrev pub Reads : (file left right subject : List ℕ) → (a : ReedReadAnswer)
 Reads file left right subject a left′ right′ subject′ = readGiven a left′ right′ subject′ ≡ readCall file left right subject
 
 -- ---- Compile
-
--- 01's number of the compiler's answer
-abbrev pub compileNumber : Compiled → ℕ
-compileNumber (compiled.Words n) = 0
-compileNumber (compiled.Refused w) = numberOf w
 
 -- the numbers of a struct, and the lent code table afterwards
 abbrev pub compileGiven : ReedAnswer → List ℕ → CompileAnswer
@@ -56,11 +40,6 @@ Checks code n = n ≡ checkCall code
 
 -- ---- Run
 
--- 01's number of the run's answer
-abbrev pub runNumber : Ran → ℕ
-runNumber (ran.Words n) = 0
-runNumber (ran.Refused w) = numberOf w
-
 -- the numbers of a struct, and the lent working and result tables afterwards
 abbrev pub runGiven : ReedAnswer → List ℕ → List ℕ → RunAnswer
 runGiven a working result = record { number = a .number; words = a .words; working = working; result = result }
@@ -69,12 +48,19 @@ runGiven a working result = record { number = a .number; words = a .words; worki
 abbrev pub Runs : (code subject working result : List ℕ) → (a : ReedAnswer) → (working′ result′ : List ℕ) → Type 0
 Runs code subject working result a working′ result′ = runGiven a working′ result′ ≡ runCall code subject working result
 
--- ---- Watch
+-- ---- A list of rules, run to the end (request 1)
 
--- 01's number of watch's answer
-abbrev pub watchNumber : Watched → ℕ
-watchNumber (watched.Counts c e f n) = 0
-watchNumber (watched.Refused w) = numberOf w
+-- the numbers of the call, as a struct: the flag is 1 if no rule matches any more, else 0
+abbrev pub listStruct : ListAnswer → ReedListAnswer
+listStruct call = record { number = call .number; words = call .words; rewrites = call .rewrites; normal = cond (call .normal) 1 0 }
+
+-- reed_list_run of rules on a subject, for so many rewrites at the most, with a working and a result table lent may answer a and leave these tables
+abbrev pub ListRuns : (rules subject : List ℕ) → (number : ℕ) → (working result : List ℕ) → (a : ReedListAnswer) → (working′ result′ : List ℕ) → Type 0
+ListRuns rules subject number working result a working′ result′ =
+    let call = listCall rules subject number working result in
+    (a ≡ listStruct call) × (working′ ≡ call .working) × (result′ ≡ call .result)
+
+-- ---- Watch
 
 -- the numbers of a struct
 abbrev pub watchGiven : ReedWatchAnswer → WatchAnswer

@@ -1,28 +1,17 @@
--- `reedbiscuit::reed_read` meets document 01's call. The struct holds the numbers that 01 gives to each case of the reader's answer, and the reader
--- has written the tables.
+-- `reedbiscuit::reed_read` meets document 01's call: the struct says what the reader's answer says, and the reader has written the tables.
+use mathlib.Core.Path.{_∙_}
+use Rattle.reedbiscuit.proofs.Given.{read-given}
 use borrow.Author.Needs.{needs}
 use Rattle.reedbiscuit.proofs.reed_read.Statement.{statement}
 use Rattle.reedbiscuit.proofs.reed_read.Tie as tie
-
-returns : tie.Need-returns
-returns c = rw (c .read-number .ensures, c .before .enum-told .given .1) (rw (c .before .enum-told .given .1) at (c .before .before .before .before .before .before .before .before .before .read .ensures))
-
-returns-2 : tie.Need-returns-2
-returns-2 c = rw (c .before .answer .given .1) at (c .before .before .before .before .before .before .before .before .before .read .ensures)
 
 pub reed-read-spec : {M : Type 1} → statement M
 reed-read-spec =
     tie.close
     (tie.spec
     (λ c κs. search needs)
-    (λ c. search needs)
-    (λ c. search needs)
     (λ c κs. search needs)
     (λ c. search needs)
     (λ c. search needs)
     (λ c. search needs)
-    returns
-    (λ c. search needs)
-    (λ c. search needs)
-    (λ c. search needs)
-    returns-2)
+    (λ c. let r = c .before .before .before .before .before .before .before .read in rw (c .of-read .ensures) (read-given (r .result) _ _ _ ∙ r .ensures)))
