@@ -17,8 +17,11 @@ ghost use Rattle.dispatch.specs.Buckets.{bucketOf, askedAt, askedBehind}
 ghost use Rattle.dispatch.specs.Admitted.{admitted, everywhere, Readable};
 ghost use Rattle.dispatch.specs.Sorted.{Sorted, Candidates};
 
-// Symbols, by name and count: the counts of one name have a bucket each, and so have names that stand close together.
+// Symbols, by name and count: the counts of one name have a bucket each, and so have names that stand close together, or a round number apart.
 const SYMBOLS: u32 = 256;
+
+// How far on the buckets of names are that differ in their high byte alone.
+const STEP: u32 = 37;
 
 // Counts are below this.
 const COUNTS: u32 = 9;
@@ -47,7 +50,8 @@ fn bucket(word: u32, count: u32) -> usize
     if FIRST_METAVARIABLE <= word {
         return ABSTRACTIONS;
     }
-    ((word * COUNTS + count) % SYMBOLS) as usize
+    let mixed = word * COUNTS + count;
+    ((mixed + mixed / SYMBOLS * STEP) % SYMBOLS) as usize
 }
 
 // The bucket that a node must be in for the instruction there not to fail.
