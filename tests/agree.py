@@ -1,7 +1,7 @@
 #!/usr/bin/env python3
 """agree.py SEED COUNT [MOST]: the definitions against the second implementation.
 
-Takes COUNT test vectors of second's tool (those of at most MOST numbers), writes them as a crate over crates/documents in a temporary
+Takes COUNT test vectors of second's tool (those of at most MOST numbers), writes them as a crate over crates/rewriting in a temporary
 repository, and lets the prover compute each call's definition on them: it is proved exactly if every number, count and lent word is what the
 second implementation gave. Nothing of this is kept."""
 import os
@@ -12,16 +12,17 @@ import tempfile
 
 ROOT = os.path.dirname(os.path.dirname(os.path.abspath(__file__)))
 CHUNK = 20  # vectors a declaration: each is computed under a step limit of its own
-UNDEFINED = {"list_run"}  # calls whose definition is not in crates/documents
+CRATES = {"documents": "", "kahrs": "documents", "safety": "documents kahrs", "compiled": "documents kahrs", "rewriting": "documents kahrs safety compiled"}
 
 SPECS = """-- Vectors of the second implementation, and when a definition agrees with one.
 use Prim.Native.Nat.{ℕ}
-use mathlib.Core.Bool.{Bool, true, false, _&&_}
+use mathlib.Core.Bool.{Bool, true, false, _&&_, cond}
 use mathlib.Core.List.{List, [], _∷_, _++_}
 use lib.Dec.{eqb}
 use lib.ListN.{replicate}
 use Rattle.documents.specs.Examples.{sameWords}
 use Rattle.documents.specs.Calls.{ReadAnswer, readCall, CompileAnswer, compileCall, checkCall, RunAnswer, runCall, WatchAnswer, watchCall, planApply}
+use Rattle.rewriting.specs.ListCall.{ListAnswer, listCall}
 
 -- a lent table afterwards: the words at its front, and what fills the rest
 pub data After : Type 0 where
@@ -35,6 +36,7 @@ pub data Vector : Type 0 where
   compiles : List ℕ → List ℕ → List ℕ → List ℕ → After → Vector
   checks : List ℕ → ℕ → Vector
   runs : List ℕ → List ℕ → List ℕ → List ℕ → List ℕ → After → After → Vector
+  lists : List ℕ → List ℕ → ℕ → List ℕ → List ℕ → List ℕ → After → After → Vector
   watches : List ℕ → List ℕ → ℕ → List ℕ → Vector
   applies : List ℕ → List ℕ → Vector
 
@@ -48,6 +50,9 @@ compileAgrees a ns c = sameWords (a .number ∷ a .words ∷ []) ns && is (a .co
 abbrev pub runAgrees : RunAnswer → List ℕ → After → After → Bool
 runAgrees a ns w r = sameWords (a .number ∷ a .words ∷ []) ns && is (a .working) w && is (a .result) r
 
+abbrev pub listAgrees : ListAnswer → List ℕ → After → After → Bool
+listAgrees a ns w r = sameWords (a .number ∷ a .words ∷ a .rewrites ∷ cond (a .normal) 1 0 ∷ []) ns && is (a .working) w && is (a .result) r
+
 abbrev pub watchAgrees : WatchAnswer → List ℕ → Bool
 watchAgrees a ns = sameWords (a .number ∷ a .current ∷ a .entries ∷ a .finished ∷ a .node ∷ []) ns
 
@@ -56,6 +61,7 @@ agrees (reads bytes l r s ns l′ r′ s′) = readAgrees (readCall bytes l r s)
 agrees (compiles l r c ns c′) = compileAgrees (compileCall l r c) ns c′
 agrees (checks c n) = eqb (checkCall c) n
 agrees (runs c s w r ns w′ r′) = runAgrees (runCall c s w r) ns w′ r′
+agrees (lists rs s n w r ns w′ r′) = listAgrees (listCall rs s n w r) ns w′ r′
 agrees (watches c s i ns) = watchAgrees (watchCall c s i) ns
 agrees (applies bytes line) = sameWords (planApply bytes) line
 """
@@ -69,10 +75,13 @@ use Rattle.documents.specs.Lists.{every}
 use Rattle.documents.specs.Instructions.{programFrom, plainIn}
 use Rattle.documents.specs.Numbers.{tableIn, subjectIn, ruleIn, codeIn, resultFor}
 use Rattle.documents.specs.Calls.{fileIn, readCall, compileCall, checkCall, runs as runs-of, runCall, watches as watches-of, watchCall, planLine, planApply}
-use Rattle.agree.specs.Vectors.{After, after, Vector, reads, compiles, checks, runs, watches, applies, agrees}
+use Rattle.rewriting.specs.Rewrites.{once}
+use Rattle.rewriting.specs.RuleTable.{rulesIn}
+use Rattle.rewriting.specs.ListCall.{rewrites, listRuns, listCall}
+use Rattle.agree.specs.Vectors.{After, after, Vector, reads, compiles, checks, runs, lists, watches, applies, agrees}
 """
 UNFOLDING = ("unfolding programFrom plainIn tableIn subjectIn ruleIn codeIn resultFor fileIn readCall compileCall checkCall runs-of runCall "
-             "watches-of watchCall planLine planApply\n")
+             "watches-of watchCall planLine planApply once rulesIn rewrites listRuns listCall\n")
 
 
 class Line:
@@ -121,6 +130,10 @@ class Line:
         code, subject, (m, work), (n, result) = self.table(), self.table(), self.lent(), self.lent()
         return f"runs {code} {subject} {work} {result} {self.words(2)} {self.after(m)} {self.after(n)}"
 
+    def list_run(self):
+        rules, subject, rewrites, (m, work), (n, result) = self.table(), self.table(), self.one(), self.lent(), self.lent()
+        return f"lists {rules} {subject} {rewrites} {work} {result} {self.words(4)} {self.after(m)} {self.after(n)}"
+
     def watch(self):
         return f"watches {self.table()} {self.table()} {self.one()} {self.words(5)}"
 
@@ -149,11 +162,12 @@ def main():
     most = int(sys.argv[3]) if len(sys.argv) > 3 else 700
     made = subprocess.run(["cargo", "run", "--quiet", "--offline", "--release", "--bin", "vectors", "--", seed, count], cwd=f"{ROOT}/second",
                           check=True, text=True, stdout=subprocess.PIPE, stderr=subprocess.DEVNULL).stdout
-    lines = [line for line in map(Line, made.splitlines()) if line.size <= most and line.call not in UNDEFINED]
+    lines = [line for line in map(Line, made.splitlines()) if line.size <= most]
     vectors = [line.vector() for line in lines]
     with tempfile.TemporaryDirectory() as repo:
-        shutil.copytree(f"{ROOT}/crates/documents", f"{repo}/crates/documents", ignore=shutil.ignore_patterns("must-fail"))
-        write(f"{repo}/crates.txt", "documents:\nagree: documents\n")
+        for crate in CRATES:
+            shutil.copytree(f"{ROOT}/crates/{crate}", f"{repo}/crates/{crate}", ignore=shutil.ignore_patterns("must-fail"))
+        write(f"{repo}/crates.txt", "".join(f"{crate}: {needs}\n" for crate, needs in CRATES.items()) + "agree: documents rewriting\n")
         write(f"{repo}/crates/agree/src/lib.rt", "// Vectors only.\n")
         write(f"{repo}/crates/agree/specs/Lib.antt", "pub mod Vectors\n")
         write(f"{repo}/crates/agree/specs/Vectors.antt", SPECS)

@@ -61,11 +61,13 @@ module _ (rules starts : List ℕ) {r : Laid} (l : LaidAs rules starts r) where
 module _ {rules starts : List ℕ} {number : ℕ} {work : List ℕ} (p : (cs : List Program) × Begun rules starts number work cs) {subject : List ℕ} {r : Sized} (s : r ≡ sized (subjectIn subject)) where
   pub accepted-from : {n : ℕ} {work′ : List ℕ} → r ≡ sized.Nodes n → length work′ ≡ length work → (cs : List Program) × Accepted rules starts subject number work′ cs
   accepted-from e l =
-      let b = p .1 in
-      (p .0, record {
-        begun = record { few = b .few; allowed = b .allowed; long = let h = b .long in omega arith; good = b .good; places = b .places };
-        accepted = subject-there subject s e .0;
-      })
+      let b = p .1 in (
+        p .0,
+        record {
+          begun = record { few = b .few; allowed = b .allowed; long = let h = b .long in omega arith; good = b .good; places = b .places };
+          accepted = subject-there subject s e .0;
+        },
+      )
 
   pub unfit : {work′ result : List ℕ} {w : Refusal} → r ≡ sized.Refused w → length work′ ≡ length work → Applied rules subject number work work′ result result (ended.Refused w)
   unfit {result = result} e l =

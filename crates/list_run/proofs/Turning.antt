@@ -151,9 +151,11 @@ module _ {rules starts roots seconds first : List ℕ} {words number most : ℕ}
         table-stays = a .table-stays;
         work-stays = a .work-stays;
         says = λ cs t.
-            let n = found-is rules starts (take left plan) above′ entries′ cs found.Nowhere e (finds t) in
-            (left-few t, running-ends cs (planIn first words) number (2 * most) (planIn plan left) made (a .goes cs t .running) n
-            ∙ ap (λ (ws : List ℕ). answered (rewritten ws made true)) (sym (plan-table plan left (a .goes cs t .accepted))));
+            let n = found-is rules starts (take left plan) above′ entries′ cs found.Nowhere e (finds t) in (
+              left-few t,
+              running-ends cs (planIn first words) number (2 * most) (planIn plan left) made (a .goes cs t .running) n
+                  ∙ ap (λ (ws : List ℕ). answered (rewritten ws made true)) (sym (plan-table plan left (a .goes cs t .accepted))),
+            );
       }
 
       module _ {x : Redex} (e : r ≡ found.At x) where
@@ -173,10 +175,12 @@ module _ {rules starts roots seconds first : List ℕ} {words number most : ℕ}
         turned-stops z = record {
           table-stays = a .table-stays;
           work-stays = a .work-stays;
-          says = λ cs t.
-              (left-few t, running-stops cs (planIn first words) number (2 * most) (planIn plan left) made (a .goes cs t .running) z
-              ∙ (ap (λ (o : Option Term). answered (rewritten (tableOf (planIn plan left)) made (isNone o))) (next-is t)
-              ∙ ap (λ (ws : List ℕ). answered (rewritten ws made false)) (sym (plan-table plan left (a .goes cs t .accepted)))));
+          says = λ cs t. (
+            left-few t,
+            running-stops cs (planIn first words) number (2 * most) (planIn plan left) made (a .goes cs t .running) z
+                ∙ (ap (λ (o : Option Term). answered (rewritten (tableOf (planIn plan left)) made (isNone o))) (next-is t)
+                ∙ ap (λ (ws : List ℕ). answered (rewritten ws made false)) (sym (plan-table plan left (a .goes cs t .accepted)))),
+          );
         }
 
         -- the redex with its rule's code

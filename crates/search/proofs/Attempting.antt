@@ -178,16 +178,16 @@ module _ {rules starts : List ℕ} {set : ℕ} {part entries now : List ℕ} {le
     attempt-matches {at} {made} {words} e = record {
       long = l;
       says = λ cs t. let n = comes-to cs t in
-        let k = comes-same (codeAt rules (getD starts (rule + gap) 0)) part then (n .0) {x = matched.Build at made words} e (n .2) in
-        record {
-          program = n .0;
-          listed = n .1;
-          ready = k .0;
-          words-are = k .1;
-          new = ready-makes (k .0) .0;
-          makes = ready-makes (k .0) .1;
-          first = rule-by cs (front part) (ready-makes (k .0) .0) (rule + gap) (n .0) (n .1) (ready-makes (k .0) .1) (λ i d h q. ap machine.made (missed-to a cs t some-left i d (rw g at h) q));
-        };
+          let k = comes-same (codeAt rules (getD starts (rule + gap) 0)) part then (n .0) {x = matched.Build at made words} e (n .2) in
+          record {
+            program = n .0;
+            listed = n .1;
+            ready = k .0;
+            words-are = k .1;
+            new = ready-makes (k .0) .0;
+            makes = ready-makes (k .0) .1;
+            first = rule-by cs (front part) (ready-makes (k .0) .0) (rule + gap) (n .0) (n .1) (ready-makes (k .0) .1) (λ i d h q. ap machine.made (missed-to a cs t some-left i d (rw g at h) q));
+          };
     }
 
     -- it fails: the rules behind it are left

@@ -26,6 +26,7 @@ lowest-bit (suc k) n p h = go (n % 2) refl (lowest-bit k (n / 2))
   where
     half : n / 2 < 2 ^ k
     half = let z : 1 + k ≡ suc k = omega arith in let e : 2 ^ (1 + k) ≡ 2 * 2 ^ k = pow-add 2 1 k in let h′ : n < 2 ^ (1 + k) = rw z h in omega arith
+
     go : (d : ℕ) → n % 2 ≡ d → (0 < n / 2 → n / 2 < 2 ^ k → n / 2 / 2 ^ trailingZeros k (n / 2) % 2 ≡ 1) → n / 2 ^ under d (trailingZeros k (n / 2)) % 2 ≡ 1
     go zero e f = rw (halves n (trailingZeros k (n / 2))) (f (omega arith) half)
     go (suc d) e f = let z : n / 1 ≡ n = omega arith in rw z (omega arith)
