@@ -1,7 +1,7 @@
 -- What an instruction asks for: an IS or ISABST fails at a node of another bucket than the one that it asks for. The second instruction, behind an
 -- IS, looks at the first argument; where there is none, code that obeys has no instruction there that asks for anything.
 use mathlib.Core.Path.{_≡_, refl, sym, _∙_}
-use Prim.Native.Nat.{ℕ, _+_, _*_, _%_, _≤_, _<_}
+use Prim.Native.Nat.{ℕ, _+_, _*_, _/_, _%_, _≤_, _<_}
 use native.Mathlib.Omega.{arith}
 use mathlib.Core.Bool.{Bool, true, false, _&&_, cond}
 use mathlib.Core.Option.{Option, some}
@@ -18,7 +18,7 @@ use Rattle.documents.specs.Machine.{Current, current, Entry, State, state, fail
 use Rattle.documents.specs.Passing.{Matching, matching, times, andThenHolds, parts, obeys, currentLimit}
 use Rattle.documents.proofs.Lists.{both-true}
 use Rattle.documents.proofs.Nodes.{nodes-positive, subterm-root, subterm-first}
-use Rattle.dispatch.specs.Buckets.{mixed, bucketOf, rootWord, rootCount, askedAt, askedBehind}
+use Rattle.dispatch.specs.Buckets.{bucketOf, rootWord, rootCount, askedAt, askedBehind}
 use Rattle.dispatch.specs.Admitted.{Readable}
 
 -- ---- Buckets
@@ -32,7 +32,7 @@ module _ (word count : ℕ) where
   unfolding bucketOf
   bucket-abstraction h = rw (le-ltb word 65536 (omega arith), le-leb 131072 word h)
 
-  pub bucket-symbol : 65536 ≤ word → word < 131072 → bucketOf word count ≡ mixed (word * 9 + count)
+  pub bucket-symbol : 65536 ≤ word → word < 131072 → bucketOf word count ≡ (word * 20551 / 4096 + count) % 256
   unfolding bucketOf
   bucket-symbol l h = rw (le-ltb word 65536 l, lt-leb 131072 word h)
 
@@ -40,7 +40,7 @@ module _ (word count : ℕ) where
   unfolding bucketOf
   bucket-low = go (ltb word 65536) (leb 131072 word)
     where
-      go : (p q : Bool) → cond p 257 (cond q 256 (mixed (word * 9 + count))) < 258
+      go : (p q : Bool) → cond p 257 (cond q 256 ((word * 20551 / 4096 + count) % 256)) < 258
       go true q = omega arith
       go false true = omega arith
       go false false = omega arith

@@ -8,13 +8,9 @@ use Rattle.documents.specs.Terms.{Term}
 use Rattle.documents.specs.Tables.{tableOf}
 use Rattle.documents.specs.Instructions.{opIS, opISABST}
 
--- a number's low byte, moved on by its other bytes
-abbrev pub mixed : ℕ → ℕ
-mixed n = (n + n / 256 * 37) % 256
-
 -- symbols by name and count, then abstractions, then variables
 unfoldable pub bucketOf : ℕ → ℕ → ℕ
-bucketOf word count = cond (ltb word 65536) 257 (cond (leb 131072 word) 256 (mixed (word * 9 + count)))
+bucketOf word count = cond (ltb word 65536) 257 (cond (leb 131072 word) 256 ((word * 20551 / 4096 + count) % 256))
 
 -- the first two words of a term's table, which are its root's
 abbrev pub rootWord : Term → ℕ

@@ -17,14 +17,11 @@ ghost use Rattle.dispatch.specs.Buckets.{bucketOf, askedAt, askedBehind}
 ghost use Rattle.dispatch.specs.Admitted.{admitted, everywhere, Readable};
 ghost use Rattle.dispatch.specs.Sorted.{Sorted, Candidates};
 
-// Symbols, by name and count: the counts of one name have a bucket each, and so have names that stand close together, or a round number apart.
+// Symbols, by name and count. Names that stand close together, or a round number apart, have buckets of their own: what is taken of a name is the
+// middle of its product with SPREAD. The counts of one name have the buckets behind it.
 const SYMBOLS: u32 = 256;
-
-// How far on the buckets of names are that differ in their high byte alone.
-const STEP: u32 = 37;
-
-// Counts are below this.
-const COUNTS: u32 = 9;
+const SPREAD: u32 = 20551;
+const LOW_PART: u32 = 4096;
 
 // A bucket for abstractions, and one for variables.
 const ABSTRACTIONS: usize = 256;
@@ -50,8 +47,7 @@ fn bucket(word: u32, count: u32) -> usize
     if FIRST_METAVARIABLE <= word {
         return ABSTRACTIONS;
     }
-    let mixed = word * COUNTS + count;
-    ((mixed + mixed / SYMBOLS * STEP) % SYMBOLS) as usize
+    ((word * SPREAD / LOW_PART + count) % SYMBOLS) as usize
 }
 
 // The bucket that a node must be in for the instruction there not to fail.

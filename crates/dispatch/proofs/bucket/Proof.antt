@@ -15,6 +15,4 @@ bucket-spec =
     (λ c. search needs)
     (λ c. search needs)
     (λ c. search needs)
-    (λ c. search needs)
-    (λ c. search needs)
     (λ c. (sym (bucket-symbol _ _ (c .before .if1 .left) (c .if2 .left)), omega arith)))
