@@ -20,7 +20,9 @@ ghost use Rattle.dispatch.specs.Sorted.{Sorted, Candidates};
 // Symbols, by name and count. Names that stand close together, or a round number apart, have buckets of their own: what is taken of a name is the
 // middle of its product with SPREAD. The counts of one name have the buckets behind it.
 const SYMBOLS: u32 = 256;
+
 const SPREAD: u32 = 20551;
+
 const LOW_PART: u32 = 4096;
 
 // A bucket for abstractions, and one for variables.

@@ -16,10 +16,8 @@ use Rattle.documents.specs.Instructions.{Program, programIn}
 use Rattle.documents.specs.Numbers.{answered, subjectIn}
 use Rattle.documents.proofs.Nodes.{depth-positive}
 use Rattle.documents.proofs.Numbers.{Held, subjectIn-held}
-use Rattle.tables.specs.declared.accept.Sized.{Sized}
-use Rattle.tables.specs.Answers.{sized}
 use Rattle.tables.specs.Parts.{front}
-use Rattle.survey.specs.Places.{Surveyed}
+use Rattle.survey.specs.Places.{placesOf}
 use Rattle.rewriting.specs.Replacing.{replace, depthAt}
 use Rattle.rewriting.proofs.Contexts.{by-context, replace-plug, depthAt-plug, subterm-ends}
 use Rattle.rewriting.proofs.Splicing.{replaced-depth}
@@ -93,7 +91,7 @@ module _ {code : List ℕ} {redex : Redex} {entries plan : List ℕ} {words most
   redex-ready : (c : Program) → programIn code ≡ some c → Ready code (redexIn plan redex) (p .table) c (redex .build) (redex .entries)
   redex-ready c e = rw cut-is at (ready-cut (begins .0) (p .ready c e))
 
-  -- ---- Surveyed, and weighed
+  -- ---- Its places noted, and weighed
 
   -- the redex as it is lent
   abbrev lent : List ℕ
@@ -102,33 +100,35 @@ module _ {code : List ℕ} {redex : Redex} {entries plan : List ℕ} {words most
   lent-is : lent ≡ redexIn plan redex
   lent-is = let e : 2 * redex .node + redex .words - 2 * redex .node ≡ redex .words = omega arith in rw e refl
 
-  module _ (places : List ℕ) (l : length places ≡ length (take 4096 (drop 4096 work))) where
-    -- the working table with the places that the survey found, behind the links
-    abbrev surveyed : List ℕ
-    surveyed = take 4096 work ++ (places ++ drop 4096 (drop 4096 work))
+  pub lent-accepted : subjectIn lent ≡ answered (front lent)
+  lent-accepted = rw lent-is redex-accepted
 
-    places-there : drop 4096 (take 8192 surveyed) ≡ places
+  module _ (places : List ℕ) (l : length places ≡ length (take 4096 (drop 4096 work))) where
+    -- the working table with the places that were noted, behind the links
+    abbrev noted : List ℕ
+    noted = take 4096 work ++ (places ++ drop 4096 (drop 4096 work))
+
+    places-there : drop 4096 (take 8192 noted) ≡ places
     places-there =
         let h = p .work-long in
-        drop-take 4096 8192 surveyed
+        drop-take 4096 8192 noted
         ∙ ap (take 4096) (drop-at (take 4096 work) (places ++ drop 4096 (drop 4096 work)) 4096 (length-take-le 4096 work (omega arith)))
         ∙ take-at places (drop 4096 (drop 4096 work)) 4096 (l ∙ length-take-le 4096 (drop 4096 work) (omega (arith, length-drop 4096 work)))
 
-    module _ (same : length surveyed ≡ length work) where
+    module _ (same : length noted ≡ length work) where
       -- the part of it that is lent to weigh in
-      pub lent-long : length (take 8192 surveyed) ≡ 8192
-      lent-long = length-take-le 8192 surveyed (omega (arith, p .work-long))
+      pub lent-long : length (take 8192 noted) ≡ 8192
+      lent-long = length-take-le 8192 noted (omega (arith, p .work-long))
 
-      pub building-at : {r : Sized} → Surveyed lent places r → Building code (redex .build) lent entries (take 8192 surveyed)
-      building-at {r} s =
-          let v : Surveyed (redexIn plan redex) places r = rw lent-is at s in
-          let n = nodes (front (redexIn plan redex)) in
+      pub building-at : take (nodes (front lent)) places ≡ placesOf 1 0 (front lent) → Building code (redex .build) lent entries (take 8192 noted)
+      building-at s =
+          let v : take (nodes (front (redexIn plan redex))) places ≡ placesOf 1 0 (front (redexIn plan redex)) = rw lent-is at s in
           rw lent-is (record {
             begun = record {
               long = omega (arith, lent-long);
               passed = p .passed;
               accepted = redex-accepted;
-              places = ap (take n) places-there ∙ v .table n (v .size ∙ ap sized redex-accepted);
+              places = ap (take (nodes (front (redexIn plan redex)))) places-there ∙ v;
             };
             table = p .table;
             made = redex .entries;
@@ -139,8 +139,8 @@ module _ {code : List ℕ} {redex : Redex} {entries plan : List ℕ} {words most
 
       -- what was weighed there is said of the whole working table
       pub weighs-redex : (table rest : List ℕ) {r : Weighed} → length (table ++ rest) ≡ length work
-          → Weighs code lent entries (take 8192 surveyed) table (roomFor most words redex) (redex .level) r
+          → Weighs code lent entries (take 8192 noted) table (roomFor most words redex) (redex .level) r
           → WeighsRedex code redex entries plan words most work (table ++ rest) r
       weighs-redex table rest {r} k s =
-          let v : Weighs code (redexIn plan redex) entries (take 8192 surveyed) table (roomFor most words redex) (redex .level) r = rw lent-is at s in
+          let v : Weighs code (redexIn plan redex) entries (take 8192 noted) table (roomFor most words redex) (redex .level) r = rw lent-is at s in
           record { long = k; term = v .term; ends = v .ends; says = rw (take-at table rest 8192 (v .long ∙ lent-long)) (v .says) }

@@ -4,7 +4,7 @@ use builder::put_before;
 use builder::weigh;
 use documents::Refusal;
 use links::NODES_AT;
-use survey::survey;
+use survey::note;
 ghost use mathlib.Core.Path.{_≡_};
 ghost use mathlib.Core.List.{_++_};
 ghost use Prim.Native.Nat.{_+_, _-_, _*_, _≤_};
@@ -78,7 +78,7 @@ fn weigh_redex(
 {
     let first = 2 * redex.node;
     let end = first + redex.words;
-    survey(&plan[first..end], &mut work[NODES_AT..ASIDE]);
+    note(&plan[first..end], &mut work[NODES_AT..ASIDE]);
     let room = most - (words - redex.words) / 2;
     weigh(
         code,

@@ -13,11 +13,13 @@ use tables::node::PLAN_NODES;
 ghost use mathlib.Core.Path.{_≡_};
 ghost use mathlib.Core.Bool.{false};
 ghost use Prim.Native.Nat.{_<_, _≤_};
-ghost use lib.ListN.{length};
-ghost use Rattle.documents.specs.Numbers.{subjectIn};
+ghost use lib.ListN.{length, take};
+ghost use Rattle.documents.specs.Tables.{nodes};
+ghost use Rattle.documents.specs.Numbers.{answered, subjectIn};
 ghost use Rattle.tables.specs.declared.accept.Sized.the-variants.{Refused};
 ghost use Rattle.tables.specs.Answers.{sized, isGood, inLayout};
-ghost use Rattle.survey.specs.Places.{Surveyed, Unfit, goesIn, wholeOf, below, levels};
+ghost use Rattle.tables.specs.Parts.{front};
+ghost use Rattle.survey.specs.Places.{placesOf, Surveyed, Unfit, goesIn, wholeOf, below, levels};
 
 // A level of the walk is one word: how many terms are owed there, times this, and the place of their roots.
 pub const TERM: u32 = 65536;
@@ -84,6 +86,40 @@ fn lay(subject: &[u32], places: &mut [u32]) -> Sized
         here = count * TERM + inside(place, word);
     }
     Sized::Refused(Refusal::TableNotGood)
+}
+
+// The places alone, of a subject that is known to be accepted: the same walk, with nothing to ask of a node.
+pub fn note(subject: &[u32], places: &mut [u32])
+    requires { ⌜ (subjectIn (now subject) ≡ answered (front (now subject))) × (4096 ≤ length (now places)) ⌝ }
+    ensures { λ _. ⌜ take (nodes (front (now (subject .entry)))) (now (places .exit)) ≡ placesOf 1 0 (front (now (subject .entry))) ⌝ }
+{
+    let nodes = subject.len() / 2;
+    let mut waiting = [0u32; MOST_DEPTH];
+    let mut kept: usize = 0;
+    let mut here = ROOT;
+    let mut node: usize = 0;
+    while node < nodes {
+        let count = subject[2 * node + 1];
+        places[node] = here % TERM;
+        if count != 0 {
+            let behind = here - TERM;
+            waiting[kept] = behind;
+            kept = keep(kept, here);
+            here = count * TERM + inside(here % TERM, subject[2 * node]);
+            node += 1;
+            continue;
+        }
+        node += 1;
+        if 2 * TERM <= here {
+            here -= TERM;
+            continue;
+        }
+        if kept == 0 {
+            return;
+        }
+        kept -= 1;
+        here = waiting[kept];
+    }
 }
 
 // Whether a node with arguments is an abstraction or a symbol as 01's table of kinds has them, and not at depth 64.
