@@ -1,4 +1,6 @@
 // The C answers, and 01's numbers in them: a struct for each call, made of the answer of the crate that does the work.
+#![tactic(auto)]
+
 ghost use Rattle.std.specs.Prelude.{◌≡◌, cond};
 ghost use Rattle.answers.specs.Structs.{of_read, of_compile, of_check, of_run, of_list_run, of_watch};
 

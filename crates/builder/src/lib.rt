@@ -1,5 +1,7 @@
 // The build part, for a run at a root and for a rewrite within a plan: what a rule makes of a subterm is weighed before a word of it is written, and then
 // written before a place of a table.
+#![tactic(auto)]
+
 ghost use Rattle.std.specs.Prelude.{◌≡◌, ◌-◌, ◌*◌, ◌/◌, ◌≤◌, min, length};
 ghost use Rattle.documents.specs.Terms.{Term};
 ghost use Rattle.documents.specs.Tables.{table_of, nodes};

@@ -1,6 +1,7 @@
 // The build part: blocks and bodies, by recursion; the words that are left fall.
 ghost use Rattle.std.specs.Prelude.{◌≡◌, [], ◌∷◌, ◌&&◌, not, false, ◌+◌, ◌-◌, ◌≤◌, eqb, ltb, length, get_or};
-ghost use Rattle.documents.specs.Instructions.{CELL, fixed_after};
+ghost use Rattle.documents.specs.Instructions;
+ghost use Rattle.documents.specs.Instructions.{fixed_after};
 ghost use Rattle.documents.specs.Passing.{build};
 ghost use Rattle.instructions.specs.Places.{place_if};
 ghost use Rattle.turns.specs.declared.entries.Found.TheVariants.{Entry};
@@ -127,7 +128,7 @@ fn plain(code: &[u32], at: usize, l: u32, terms: usize) -> Terms
 
 fn cell(name: u32, count: u32, terms: usize) -> Terms
     requires { terms ≤ 4096 }
-    ensures { result ≡ terms_of (build [] false 0 0 (CELL name count) (terms ∷ [])) }
+    ensures { result ≡ terms_of (build [] false 0 0 (Instructions.CELL name count) (terms ∷ [])) }
 {
     if MOST_NAME < name {
         return Terms::Refused(Refusal::DoesNotPass);

@@ -1,5 +1,7 @@
 // Whether code passes (document 01, 'When code passes'): the match part here, the build part in build.rt. Each instruction is read and checked in one
 // walk; the state goes by value.
+#![tactic(auto)]
+
 pub mod build; // blocks and bodies
 
 ghost use Rattle.std.specs.Prelude.{◌≡◌, [], ◌∷◌, ◌<◌, ◌≤◌, length, get_or, replicate};

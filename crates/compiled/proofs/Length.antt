@@ -35,7 +35,7 @@ length_occurrence : (n : ℕ) (l : List ℕ) (rows : List Row) (o : Option Locat
 length_occurrence n l rows o d u absent =
     let h = unlisted_others n l d u in
     let k = length-append (unlisted n l) (words (SET ▸ NEXT ▸ End)) in
-    rw (unvar_vars l) (omega arith)
+    simp unvar_vars (omega arith)
 length_occurrence n l rows o d u (present {l = a} g r) =
     let h = length_pairs a l r.3 in
     let k = length-append (pair_words (pairlists a l)) (words (NEXT ▸ End)) in

@@ -1,1 +1,2 @@
 // Code compiled from an accepted rule passes, and fits: laws only, in proofs/.
+#![tactic(auto)]

@@ -1,5 +1,7 @@
 // From two tables to code (document 01, 'Rules, valuations, translation'): Kahrs's translation in 01's words. The code's length is known before
 // the first word is written.
+#![tactic(auto)]
+
 pub mod sides; // what is asked of the sides before their metavariables: 2, 1, 3; 2, 1, 3; 5, 6, 7
 pub mod length; // the length of a right side's code
 

@@ -1,5 +1,7 @@
 // Which rules can match at a node, told from its two words and from those of the node behind it, which is its first argument if it has one: sets of
 // rules, a bit for each, one for each bucket of nodes. A rule that is in neither set need not be tried.
+#![tactic(auto)]
+
 ghost use Rattle.std.specs.Prelude.{◌≡◌, List, ◌+◌, ◌≤◌, ◌<◌, length, get_or, drop, replicate};
 ghost use Rattle.documents.specs.Instructions.{Program};
 ghost use Rattle.tables.specs.Parts.{Begins, front};

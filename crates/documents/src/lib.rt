@@ -1,5 +1,7 @@
 // What documents 01 and 004 say is in specs/; here stand the opcodes, and the refusals, in the order of 01's tables and then of
 // the requests that bring them (document 02), and their numbers.
+#![tactic(auto)]
+
 pub mod op; // the fourteen opcodes
 
 ghost use Rattle.std.specs.Prelude.{◌≡◌};

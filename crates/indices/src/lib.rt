@@ -1,4 +1,6 @@
 // Sets of indices below 64, a bit for each.
+#![tactic(auto)]
+
 ghost use Rattle.std.specs.Prelude.{◌≡◌, true, ◌≤◌};
 ghost use Rattle.documents.specs.Instructions.{pairs_in};
 ghost use Rattle.documents.specs.Passing.{all_below};

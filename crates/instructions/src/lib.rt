@@ -1,4 +1,6 @@
 // The instruction reader (document 01, 'Rules, valuations, translation'): whole instructions only, and the bodies of a PUSHI one by one.
+#![tactic(auto)]
+
 ghost use Rattle.std.specs.Prelude.{◌≡◌, ◌<◌, ◌≤◌, length};
 ghost use Rattle.instructions.specs.Places.{fetched};
 

@@ -1,6 +1,8 @@
 // Whether the metavariables of one side stand on the other, too, where these are more than the symbol table has rows for (document 01, refusals 8
 // and 9). A side may have as many as it has nodes, so one is not looked for among all of them: each is a key, and the keys of both sides are parted
 // by one bit after the other until few are left. So the work is a few passes over the keys, twenty at most.
+#![tactic(auto)]
+
 ghost use Rattle.std.specs.Prelude.{◌≡◌, ◌≤◌, ◌<◌, length};
 ghost use Rattle.documents.specs.Lists.{every, member};
 ghost use Rattle.documents.specs.Rules.{metas, contains};

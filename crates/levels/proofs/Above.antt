@@ -1,6 +1,6 @@
 -- What a caller of `go` knows of the words above a node: how many, whose numbers they hold, which nodes a search has passed once it has looked at these,
 -- and how the array comes to stand above one of them, or above the same node after a rewrite there.
-use mathlib.Core.Path.{◌≡◌, refl, sym, ap, ◌∙◌}
+use mathlib.Core.Path.{◌≡◌, refl, sym, ap, ◌∙◌, subst}
 use Prim.Native.Nat.{ℕ, zero, suc, ◌+◌, ◌-◌, ◌*◌, ◌/◌, ◌^◌, ◌≤◌, ◌<◌}
 use native.Mathlib.Omega.{arith}
 use mathlib.Core.Bool.{Bool, true, false, cond}
@@ -155,7 +155,8 @@ module _ {plan : List ℕ} {n : ℕ} {above : List ℕ} {many : ℕ} (h : Above 
       back zero a b w = absurd (omega arith)
       back (suc k) a b w =
           let z : suc k - 1 ≡ k = omega arith in
-          rw z (small k w.levels w.low w.words, again_levels above k w.levels b w.words ∙ ap (map word_of) (sym w.theirs))
+          let P : ℕ → Type 0 = λ j. (get_or above j 0 + 1 < 2 ^ 32) × (stacked (set above j (get_or above j 0 + 1)) (suc k) ≡ map word_of (levels_of (front plan) (get_or above (suc k) 0 / 16))) in
+          subst P (sym z) (small k w.levels w.low w.words, again_levels above k w.levels b w.words ∙ ap (map word_of) (sym w.theirs))
 
   -- another term in the node's place
   pub above_replaced : (plan' : List ℕ) (w : Term) → subject_in plan' ≡ answered (front plan') → front plan' ≡ replace (front plan) n w

@@ -23,9 +23,11 @@ Owed k [] = ⊥
 Owed k (level a o ∷ ls) = k ≤ o
 
 pub owed_fewer : (j k : ℕ) (ls : List Level) → j ≤ k → Owed k ls → Owed j ls
+owed_fewer j k [] i h = elim h [ ]
 owed_fewer j k (level a o ∷ ls) i h = omega arith
 
 pub owed_begun : (k : ℕ) (ls : List Level) → Owed (suc k) ls → Owed k (begun ls)
+owed_begun k [] h = elim h [ ]
 owed_begun k (level a zero ∷ ls) h = absurd (omega arith)
 owed_begun k (level a (suc o) ∷ ls) h = omega arith
 
@@ -36,6 +38,7 @@ unended (level a zero ∷ ls) = unended ls
 unended (level a (suc o) ∷ ls) = level a (suc o) ∷ ls
 
 owed_unended : (ls : List Level) → Owed 1 ls → unended ls ≡ ls
+owed_unended [] h = elim h [ ]
 owed_unended (level a zero ∷ ls) h = absurd (omega arith)
 owed_unended (level a (suc o) ∷ ls) h = refl
 

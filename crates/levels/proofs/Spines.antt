@@ -114,6 +114,7 @@ module _ (f : ℕ → List Level) where
   backs_begun (level a (suc o) ∷ l ∷ ls) b = b
 
   backs_on : (p c : ℕ) (ls : List Level) → Owed 1 ls → f p ≡ ls → Backs f ls → Backs f (level p c ∷ begun ls)
+  backs_on p c [] o e b = elim o [ ]
   backs_on p c (level a zero ∷ ls) o e b = absurd (omega arith)
   backs_on p c (level a (suc o) ∷ ls) h e b = (e, backs_begun (level a (suc o) ∷ ls) b)
 
@@ -137,13 +138,13 @@ module _ (f : ℕ → List Level) where
   spine_backs p Here u ls g o b = b
   spine_backs p (InSym s k) u ls g o b =
       spine_backs (suc p) k u _ (says_below p (Sym s (plug k u)) k u ls refl (λ i. refl) g) (omega arith)
-      (backs_on p _ ls o (says_root p (Sym s (plug k u)) ls g) b)
+      (backs_on p (width k) ls o (says_root p (Sym s (plug k u)) ls g) b)
   spine_backs p (InMeta z k) u ls g o b =
       spine_backs (suc p) k u _ (says_below p (Meta z (plug k u)) k u ls refl (λ i. refl) g) (omega arith)
-      (backs_on p _ ls o (says_root p (Meta z (plug k u)) ls g) b)
+      (backs_on p (width k) ls o (says_root p (Meta z (plug k u)) ls g) b)
   spine_backs p (InAbst k) u ls g o b =
       spine_backs (suc p) k u _ (λ i h. let z : suc p + i ≡ p + suc i = omega arith in ap f z ∙ g (suc i) (omega arith)) (omega arith)
-      (backs_on p _ ls o (says_root p (Abst (plug k u)) ls g) b)
+      (backs_on p 1 ls o (says_root p (Abst (plug k u)) ls g) b)
   spine_backs p (First k ts) u ls g o b =
       spine_backs p k u ls (λ i h. g i (omega arith) ∙ levels_first p (plug k u) ts i ls h) (owed_fewer 1 (width (First k ts)) ls (omega arith) o) b
   spine_backs p (Later t k) u ls g o b =

@@ -92,7 +92,7 @@ pushed_levels above (suc k) w (level a (suc q) ∷ ls) o h e =
     let v : get_or above k 0 ≡ a * 16 + suc q = cc in
     let r : stacked above k ≡ map word_of ls = cc in
     let d : get_or above k 0 - 1 ≡ a * 16 + q = omega arith in
-    rw (z, i, d) (stacked_two above k (a * 16 + q) w h ∙ ap (λ (l : List ℕ). w ∷ (a * 16 + q) ∷ l) r)
+    rw (z, d, i) (stacked_two above k (a * 16 + q) w h ∙ ap (λ (l : List ℕ). w ∷ (a * 16 + q) ∷ l) r)
 
 -- an argument is still to begin
 pub again_levels : (above : List ℕ) (k : ℕ) (ls : List Level) → suc k ≤ length above → stacked above (suc k) ≡ map word_of ls

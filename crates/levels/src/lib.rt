@@ -1,6 +1,8 @@
 // The nodes above a node of a plan, a word each: its number times TERMS, and how many of its arguments are still to begin, for the nearest of them the
 // argument at hand too. The first word stands for no node: it owes the plan itself. So a node's level is its depth, and the nodes above it are the
 // words from 1 on, the root first.
+#![tactic(auto)]
+
 ghost use Rattle.std.specs.Prelude.{◌≡◌, ◌≤◌, ◌<◌, ◌/◌};
 ghost use Rattle.documents.specs.Tables.{nodes};
 ghost use Rattle.tables.specs.Parts.{front};

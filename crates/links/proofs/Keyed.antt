@@ -130,7 +130,7 @@ held_trees {t} {q} {e} {E} {n = suc k} {b} s hi =
     let r : HeldNext t q e E k b = rw m at (held_next s hi (omega arith)) in
     let l = r.within in
     let i = r.inside in
-    let o = held_trees r.behind hi in (
+    let o = held_trees {q = body_end t q} {n = k} r.behind hi in (
       ap keys r.is ∙ ap (λ l. get_or t q 0 ∷ l) o.0,
       ap (λ (a : Bodies). grown a) r.is ∙ ap₂ More (tree_here t (q + 2) (body_end t q) i.here) o.1,
       (omega arith, record { program = r.body; here = i.here; runs = i.runs }, o.2),

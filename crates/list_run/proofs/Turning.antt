@@ -84,7 +84,7 @@ module _ (rules starts roots seconds first : List ℕ) (words number most : ℕ)
 
   pub record Turned (plan above entries work : List ℕ) (left node level made : ℕ) : Type 0 where
     pub table_stays : length plan ≡ length first
-    pub work-stays : length work ≡ length work₀
+    pub work_stays : length work ≡ length work₀
     pub room : length entries ≡ 16
     pub inside : left ≤ 8192
     pub allowed : made ≤ number
@@ -95,7 +95,7 @@ module _ {rules starts roots seconds first : List ℕ} {words number most : ℕ}
     pub turned_starts : {entries : List ℕ} → length entries ≡ 16 → Turned rules starts roots seconds first words number most work₀ first (set (replicate 65 0) 0 1) entries work₀ words 0 1 0
     turned_starts l = record {
       table_stays = refl;
-      work-stays = refl;
+      work_stays = refl;
       room = l;
       inside = p.1.inside;
       allowed = omega arith;
@@ -149,7 +149,7 @@ module _ {rules starts roots seconds first : List ℕ} {words number most : ℕ}
       pub turned_ends : r ≡ found.Nowhere → Turns rules starts roots seconds first plan words number most work₀ work (ended.Plan left made true)
       turned_ends e = record {
         table_stays = a.table_stays;
-        work-stays = a.work-stays;
+        work_stays = a.work_stays;
         says = λ cs t.
             let n = found_is rules starts (take left plan) above' entries' cs found.Nowhere e (finds t) in (
               left_few t,
@@ -174,7 +174,7 @@ module _ {rules starts roots seconds first : List ℕ} {words number most : ℕ}
         pub turned_stops : made ≡ number → Turns rules starts roots seconds first plan words number most work₀ work (ended.Plan left made false)
         turned_stops z = record {
           table_stays = a.table_stays;
-          work-stays = a.work-stays;
+          work_stays = a.work_stays;
           says = λ cs t. (
             left_few t,
             running_stops cs (plan_in first words) number (2 * most) (plan_in plan left) made (a.goes cs t).running z
@@ -194,7 +194,7 @@ module _ {rules starts roots seconds first : List ℕ} {words number most : ℕ}
               few = let l = f.long in let k = m.ready.few in omega arith;
               replacing = record {
                 table_long = table_long t;
-                work_long = let l = t.work_long in let s = a.work-stays in omega arith;
+                work_long = let l = t.work_long in let s = a.work_stays in omega arith;
                 inside = a.inside;
                 accepted = (a.goes cs t).accepted;
                 small = small t;
@@ -236,7 +236,7 @@ module _ {rules starts roots seconds first : List ℕ} {words number most : ℕ}
           pub turned_breaks : {w : Refusal} → s ≡ replaced.Refused w → made < number → Turns rules starts roots seconds first plan' words number most work₀ work' (ended.Refused w)
           turned_breaks {w} q l = record {
             table_stays = d.table_stays ∙ a.table_stays;
-            work-stays = d.work-stays ∙ a.work-stays;
+            work_stays = d.work_stays ∙ a.work_stays;
             says = λ cs t.
                 let k = replaced_is plan x.node left most (redexed t).old plan' (redexed t).matches.program (replaced.Refused w) q (replaced_as t) in
                 running_breaks cs (plan_in first words) number (2 * most) (plan_in plan left) made (a.goes cs t).running (replace (plan_in plan left) x.node k.0)
@@ -266,7 +266,7 @@ module _ {rules starts roots seconds first : List ℕ} {words number most : ℕ}
             pub turned_on : (p : (cs : List Program) × Turning rules starts roots seconds first words most work₀ cs) → made < number → Turned rules starts roots seconds first words number most work₀ plan' above' entries' work' next x.node x.level (made + 1)
             turned_on (cs, t) l = record {
               table_stays = d.table_stays ∙ a.table_stays;
-              work-stays = d.work-stays ∙ a.work-stays;
+              work_stays = d.work_stays ∙ a.work_stays;
               room = f.long;
               inside = let k = (as_words t).4 in let m = t.few in omega arith;
               allowed = omega arith;

@@ -1,5 +1,7 @@
 // The list run (document 02, request 1): a list of rules applied to a whole plan, each time at the first node in prefix order where one of them
 // matches, by the first that matches there. A plan is weighed before a word of it is written; the result table is written once, at the end.
+#![tactic(auto)]
+
 ghost use Rattle.std.specs.Prelude.{◌≡◌, List, ◌≤◌, get_or, take};
 ghost use Rattle.documents.specs.Instructions.{Program};
 ghost use Rattle.rewriting.specs.ListCall.{list_call};

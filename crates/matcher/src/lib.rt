@@ -1,6 +1,8 @@
 // The match part of a run (document 01; 004, section 4.2), for code that passes and an accepted subject. The subject is handed on as a part of a
 // table: it stands at the front, and where it ends need not be known. In prefix order the current terms are consecutive up to its end: the top starts
 // at a word place of the part, and there are so many of them. An entry is the word place of its subterm.
+#![tactic(auto)]
+
 ghost use Rattle.std.specs.Prelude.{◌≡◌, true, ◌≤◌, ◌<◌, ◌^◌, length, get_or};
 ghost use Rattle.documents.specs.Passing.{passes};
 ghost use Rattle.matcher.specs.Midway.{Midway, Steps, entries_after, made_after};

@@ -32,11 +32,11 @@ module _ (code subject entries places : List ℕ) where
     stands_deep (Pushed e D ks ps) z h = h.0.deep
 
     pub stands_falls : (p : Tree one) (z : ℕ) → Stands code subject entries places lo hi work p (root z) → before_in (get_or work z 0) < z
-    stands_falls (Cell s ps) z h = h.0.before_Falls
-    stands_falls (Block p) z h = h.0.before_Falls
-    stands_falls (Bound x) z h = h.0.before_Falls
-    stands_falls (Whole e) z h = h.0.before_Falls
-    stands_falls (Pushed e D ks ps) z h = h.0.before_Falls
+    stands_falls (Cell s ps) z h = h.0.before_falls
+    stands_falls (Block p) z h = h.0.before_falls
+    stands_falls (Bound x) z h = h.0.before_falls
+    stands_falls (Whole e) z h = h.0.before_falls
+    stands_falls (Pushed e D ks ps) z h = h.0.before_falls
 
     back_one : (k z : ℕ) → before_in (get_or work (back work k z) 0) ≡ back work (suc k) z
     back_one zero z = refl

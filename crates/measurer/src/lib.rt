@@ -1,5 +1,7 @@
 // How many nodes a result has, how deep it is and how far its indices reach, before a word of it is written. Each instruction that makes a term leaves
 // its link, so that the tree can then be walked from its root.
+#![tactic(auto)]
+
 ghost use Rattle.std.specs.Prelude.{◌≡◌, ◌+◌, ◌-◌, ◌<◌, ◌≤◌, max, length, get_or, set};
 ghost use Rattle.instructions.specs.Bodies.{Readable};
 ghost use Rattle.trees.specs.Trees.{further};

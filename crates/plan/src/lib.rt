@@ -1,4 +1,6 @@
 // The program plan_apply but for its input and output (document 01, 'Bytes and the program'): from the bytes of a file to the bytes of a line.
+#![tactic(auto)]
+
 pub mod line; // numbers in decimal
 
 ghost use Rattle.std.specs.Prelude.{◌≡◌};

@@ -1,5 +1,7 @@
 // The program plan_apply (document 01, 'Bytes and the program'): a file on standard input, one line on standard output. What the line says is decided
 // and proved in `plan`; here its bytes come in and go out.
+#![tactic(auto)]
+
 ghost use Rattle.plan.specs.Line.{Counts};
 
 use libc::{STDIN_FILENO, STDOUT_FILENO};

@@ -1,4 +1,6 @@
 // The byte reader (document 01, 'Bytes and the program'). A file is looked at to its end before the first word is written.
+#![tactic(auto)]
+
 ghost use Rattle.std.specs.Prelude.{◌≡◌, ◌+◌, ◌-◌, ◌*◌, ◌%◌, ◌^◌, ◌≤◌, ◌<◌, length, drop};
 ghost use Rattle.std.proofs.lemmas.List.Edits.{sets};
 ghost use Rattle.documents.specs.Calls.{big_endian, at_front, file_in, read_call};

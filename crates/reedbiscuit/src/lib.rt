@@ -1,4 +1,6 @@
 // The C interface: each call hands its slices on to the crate that does the work, and gives the answer back as 01's numbers.
+#![tactic(auto)]
+
 ghost use Rattle.reedbiscuit.specs.Answers.{Reads, Compiles, Checks, Runs, ListRuns, Watches};
 
 use answers::{

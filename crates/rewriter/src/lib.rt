@@ -1,4 +1,6 @@
 // One rewrite within a plan: the redex, and what stands behind it, are copied aside, and what the rule makes of the redex is written in its place.
+#![tactic(auto)]
+
 ghost use Rattle.std.specs.Prelude.{◌≡◌, ◌++◌, ◌+◌, ◌-◌, ◌*◌, ◌≤◌, length, take, drop};
 ghost use Rattle.documents.specs.Terms.{Term};
 ghost use Rattle.documents.specs.Tables.{table_of, nodes};
@@ -19,7 +21,7 @@ const ASIDE: usize = 8192;
 
 // Where a rule matches: a node, its level, the words of its term; the rule by number, where its build part begins, how many entries its match part
 // made.
-#[derive(Drop)]
+#[derive(Clone, Copy)]
 pub struct Redex {
     pub node: usize,
     pub level: usize,

@@ -1,4 +1,6 @@
 // The table of rules (document 02, request 1): each a word count and its code; one cut short by the end is bad.
+#![tactic(auto)]
+
 ghost use Rattle.std.specs.Prelude.{◌≡◌, ◌+◌, ◌≤◌, leb, length, get_or};
 ghost use Rattle.rewriting.specs.RuleTable.{listed};
 ghost use Rattle.rewriting.specs.ListCall.{rule_limit};

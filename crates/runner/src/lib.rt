@@ -1,5 +1,7 @@
 // The run call (document 01): a result is measured before a word of it is written, so that a refusal leaves the result table as it was. The working
 // table holds a word for each word of the code, then one for each node of the subject; afterwards it holds nothing.
+#![tactic(auto)]
+
 ghost use Rattle.std.specs.Prelude.{◌≡◌};
 ghost use Rattle.documents.specs.Calls.{run_call};
 ghost use Rattle.builder.specs.Weighing.{Begun, Building};

@@ -1,1 +1,2 @@
 // Code that passes has a step everywhere: laws only, in proofs/.
+#![tactic(auto)]

@@ -1,5 +1,7 @@
 // The first node in prefix order where a rule of the list matches, and the first rule that does. After a rewrite only the nodes above it and those from it on
 // are looked at: the others before it end before it, and are as they were (001: 'known to be in simplest form').
+#![tactic(auto)]
+
 ghost use Rattle.std.specs.Prelude.{List};
 ghost use Rattle.documents.specs.Instructions.{Program};
 ghost use Rattle.search.specs.Searches.{Trying, Tries, Searching, Finds, FindsAbove};

@@ -1,4 +1,6 @@
 // The subject's check, and where each of its nodes stands: its depth and the abstractions above it.
+#![tactic(auto)]
+
 ghost use Rattle.std.specs.Prelude.{◌≡◌, false, ◌<◌, ◌≤◌, length, take};
 ghost use Rattle.documents.specs.Tables.{nodes};
 ghost use Rattle.documents.specs.Numbers.{answered, subject_in};

@@ -1,6 +1,8 @@
 // The symbol table (004, section 5): of each left metavariable, from its first occurrence, its name, its argument count, the number of
 // abstractions above it and its argument list. It is one flat array, a row after the other, filled from its end: so the last first occurrence
 // stands first, and a location is a place.
+#![tactic(auto)]
+
 ghost use Rattle.std.specs.Prelude.{◌≡◌, true, ◌∷◌, ◌+◌, ◌≤◌, ◌<◌, length, drop, get_or};
 ghost use Rattle.std.proofs.lemmas.List.Edits.{sets};
 ghost use Rattle.documents.specs.Rules.{metas, are_vars};

@@ -1,5 +1,7 @@
 // The walk of a prefix table (document 01, 'Terms and node tables'), for whoever has a table: two words a node, a node and then its arguments.
 // A subterm is handed on as the part of the table that starts at its node, and never copied.
+#![tactic(auto)]
+
 pub mod node; // the words of a node
 pub mod walk; // what a walk answers
 pub mod accept; // the table check: 2, 1, 3, and a subject's 4

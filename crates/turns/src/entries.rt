@@ -5,7 +5,7 @@ ghost use Rattle.turns.specs.Held.{found_in, same_depth};
 use instructions::limit::MOST_ENTRIES;
 
 // The newest last: the depth b, and as guard the set of the indices that its CHECK lists.
-#[derive(Drop)]
+#[derive(Clone, Copy)]
 pub struct Entries {
     pub count: usize,
     pub depths: [u8; MOST_ENTRIES],

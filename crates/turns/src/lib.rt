@@ -1,4 +1,6 @@
 // What a match instruction makes of the current term (document 01, 'When code passes').
+#![tactic(auto)]
+
 pub mod entries; // sixteen entries
 
 ghost use Rattle.std.specs.Prelude.{◌≡◌, ◌&&◌, ◌+◌, ◌<◌, ◌≤◌, leb, length, get_or};

@@ -168,16 +168,16 @@ module _ {code : List ℕ} {at finished : ℕ} (c : Counted code at finished) (l
     cell_words = let h = there 8 o in omega arith
 
     pub cell_takes : get_or code (at + 2) 0 ≤ finished
-    cell_takes = let h = cell_counts.0 in let t = c.total-is in omega arith
+    cell_takes = let h = cell_counts.0 in let t = c.total_is in omega arith
 
     pub cell_grows : Grown c (at + 3) (finished - get_or code (at + 2) 0 + 1)
-    cell_grows = let h = cell_counts.1 in let k = cell_takes in let t = c.total-is in grown (finished - get_or code (at + 2) 0 + 1) cell_here (omega arith) (omega arith)
+    cell_grows = let h = cell_counts.1 in let k = cell_takes in let t = c.total_is in grown (finished - get_or code (at + 2) 0 + 1) cell_here (omega arith) (omega arith)
 
   -- ---- PUSHVAR and PUSHIMM
 
   pub whole_grows : 11 ≤ get_or code at 0 → (get_or code at 0 ≡ 13 → ⊥) → Grown c (at + 2) (finished + 1)
   whole_grows h n =
-      let t = c.total-is in
+      let t = c.total_is in
       let b = opcodes.1 in
       one_of (get_or code at 0) 11 h (omega arith)
       (λ o. let s = plain _ 1 (at + 2) n (read_pushvar code at (length code) o refl (there 11 o)) (omega arith) in
@@ -189,7 +189,7 @@ module _ {code : List ℕ} {at finished : ℕ} (c : Counted code at finished) (l
 
   pub block_grows : get_or code at 0 < 11 → (get_or code at 0 ≡ 8 → ⊥) → Grown c (at + 1) finished
   block_grows h n =
-      let t = c.total-is in
+      let t = c.total_is in
       let b = opcodes.0 in
       one_of (get_or code at 0) 9 (omega arith) (omega arith)
       (λ o. let s = plain _ 0 (at + 1) (λ q. omega arith) (read_lambda code at (length code) o refl (there 9 o)) (omega arith) in
@@ -217,7 +217,7 @@ module _ {code : List ℕ} {at finished : ℕ} (c : Counted code at finished) (l
         let l = behind_low code (at + 4) (get_or code (at + 3) 0) in
         let s = stood push_here.starts (omega arith) in
         let k = pushi_total c.es c.hs s.ks (get_or code (at + 1) 0) (get_or code (at + 2) 0) push_here.bodies s.goes in
-        let t = c.total-is in
+        let t = c.total_is in
         rw e (grown (finished + 1) s (omega arith) (omega arith))
 
 -- ---- the loop

@@ -1,4 +1,6 @@
 // The watch call (document 01): the machine's counts after the first outermost instructions. Nothing is built.
+#![tactic(auto)]
+
 pub mod count; // the finished terms of the build part
 
 ghost use Rattle.std.specs.Prelude.{◌≡◌, true};

@@ -1,4 +1,6 @@
 // Writes a result that was measured, from its last node to its first.
+#![tactic(auto)]
+
 ghost use Rattle.std.specs.Prelude.{◌≡◌, [], ◌∷◌, ◌+◌, ◌-◌, ◌≤◌, ◌<◌, length, get_or};
 ghost use Rattle.documents.specs.Instructions.{op_cell, op_pushvar, op_pushimm, op_pushi};
 ghost use Rattle.writer.specs.Written.{Wrote, Writes, Room, Same, nstack};

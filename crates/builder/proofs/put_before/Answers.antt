@@ -1,0 +1,11 @@
+use lib.ListN.{replicate}
+use mathlib.Core.Path.{refl}
+use Rattle.builder.proofs.Weighing.{may_write, written}
+use borrow.Author.Rules.{rules}
+use Rattle.builder.proofs.put_before.Goals as goal
+
+pub write-requires : goal.write-requires
+write-requires c = may_write c.requires.0.1 (replicate 128 0) _ _ refl c.requires.0.2 c.requires.1
+
+pub returns : goal.returns
+returns c = λ u b fit. written b (replicate 128 0) fit c.write.ensures.0

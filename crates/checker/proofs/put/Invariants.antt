@@ -1,0 +1,14 @@
+-- `checker::put`: the first i are written.
+use mathlib.Core.Path.{◌≡◌, refl, ◌∙◌}
+use Prim.Native.Nat.{◌-◌, ◌≤◌}
+use native.Mathlib.Omega.{arith}
+use lib.ListN.{length, take, replicate, length-set}
+use Rattle.checker.proofs.Current.{put_next, put_all}
+use borrow.Author.Rules.{rules}
+use Rattle.checker.proofs.put.Given as goal
+
+abbrev pub invariant-loop-i : goal.invariant-loop-i
+invariant-loop-i l = (take l.i l.part ≡ replicate l.i l.depth) × (length l.part ≡ length l.initial.part) × (l.i ≤ length l.initial.part)
+
+abbrev pub decreases-loop-i : goal.decreases-loop-i
+decreases-loop-i l = length l.initial.part - l.i

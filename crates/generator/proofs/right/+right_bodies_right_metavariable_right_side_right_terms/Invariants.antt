@@ -1,0 +1,36 @@
+-- The four functions of `right` meet their contracts. Each writes the words of what 004's `rhs` says of the node that it stands at, and then those of
+-- the terms inside, by a call; the loops' invariants say that the words of the terms that are left, written from here on, make the table asked for.
+-- What falls from call to call is the part's length, and between functions that are lent the same part a number that tells them apart.
+use mathlib.Core.Path.{sym, ◌∙◌}
+use Prim.Native.Nat.{ℕ, ◌+◌, ◌*◌, ◌<◌}
+use native.Mathlib.Omega.{arith}
+use lib.ListN.{length}
+use Rattle.tables.proofs.Fronts.{root_words}
+use Rattle.generator.proofs.Matching.{is_metavariable}
+use Rattle.generator.proofs.Building.{falls_along, falls_inside, ready_arguments, ready_body, arguments_within, body_within, fits_variable, builds_variable, fits_arguments, writing_cell, builds_symbol, fits_lambda, fits_inside, writing_adbmal, builds_abstraction, builds_absent, row_of, keys_within, fits_pushi, writing_bodies, builds_metavariable, ready_first, first_within, Joining, joining_from, fits_first_term, joining_on, joining_ended, Keying, keying_from, fits_body, body_length, fits_key, keying_on, keying_ended}
+use borrow.Author.Rules.{rules}
+use Rattle.generator.proofs.right.+right_bodies_right_metavariable_right_side_right_terms.Given as goal
+
+abbrev pub decreases-right_bodies : goal.decreases-right_bodies
+decreases-right_bodies l = 3 * length l.part.now + 2
+
+abbrev pub decreases-right_metavariable : goal.decreases-right_metavariable
+decreases-right_metavariable l = 3 * length l.part.now + 0
+
+abbrev pub decreases-right_side : goal.decreases-right_side
+decreases-right_side l = 3 * length l.part.now + 1
+
+abbrev pub decreases-right_terms : goal.decreases-right_terms
+decreases-right_terms l = 3 * length l.part.now + 2
+
+abbrev pub invariant-right_bodies-loop-left : goal.invariant-right_bodies-loop-left
+invariant-right_bodies-loop-left l = Keying l.part l.count l.under l.rows l.keys l.initial.code l.at l.code l.left l.key l.read l.place
+
+abbrev pub decreases-right_bodies-loop-left : goal.decreases-right_bodies-loop-left
+decreases-right_bodies-loop-left l = l.left
+
+abbrev pub invariant-right_terms-loop-left : goal.invariant-right_terms-loop-left
+invariant-right_terms-loop-left l = Joining l.part l.count l.under l.rows l.initial.code l.at l.code l.left l.read l.place
+
+abbrev pub decreases-right_terms-loop-left : goal.decreases-right_terms-loop-left
+decreases-right_terms-loop-left l = l.left

@@ -1,0 +1,13 @@
+use mathlib.Core.Path.{refl, sym, ◌∙◌}
+use Prim.Native.Nat.{◌-◌}
+use lib.Seq.{length-take-le}
+use native.Mathlib.Omega.{arith}
+use borrow.Author.Rules.{rules}
+use Rattle.list_run.proofs.Turning.{Turned, turned_starts, may_search, left_within, turned_ends, turned_stops, may_rewrite, turned_breaks, turned_on}
+use Rattle.list_run.proofs.turns.Given as goal
+
+abbrev pub invariant-loop-redex : goal.invariant-loop-redex
+invariant-loop-redex l = Turned l.rules l.starts l.roots l.seconds l.initial.plan l.words l.rewrites l.most l.initial.work l.plan l.above l.entries l.work l.left l.node l.level l.made
+
+abbrev pub decreases-loop-redex : goal.decreases-loop-redex
+decreases-loop-redex l = l.rewrites - l.made

@@ -1,0 +1,14 @@
+use borrow.Author.Rules.{rules}
+use mathlib.Core.Path.{◌≡◌, refl, sym}
+use Prim.Native.Nat.{◌-◌}
+use Rattle.documents.specs.Tables.{nodes}
+use Rattle.tables.specs.Parts.{front}
+use native.Mathlib.Omega.{arith}
+use Rattle.search.proofs.Looking.{LookingFrom, plan_accepted, looking_here, trying_part, looking_starts, looking_on, looking_missed, looking_found, looking_ends}
+use Rattle.search.proofs.search_from.Given as goal
+
+abbrev pub invariant-loop-node : goal.invariant-loop-node
+invariant-loop-node l = LookingFrom l.rules l.starts l.roots l.seconds l.plan l.from l.initial.above l.level l.initial.entries l.entries l.node × (l.above ≡ l.initial.above)
+
+abbrev pub decreases-loop-node : goal.decreases-loop-node
+decreases-loop-node l = nodes (front l.plan) - l.node

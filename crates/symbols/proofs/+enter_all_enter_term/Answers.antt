@@ -1,0 +1,75 @@
+use Prim.Native.Nat.{ℕ, ◌+◌, ◌-◌, ◌*◌, ◌<◌}
+use native.Mathlib.Omega.{arith}
+use lib.ListN.{length, drop, length-drop}
+use Rattle.tables.proofs.Parts.{from_drop}
+use Rattle.symbols.specs.Rows.{rows_in}
+use Rattle.tables.proofs.Fronts.{root_words, below_abstraction}
+use Rattle.symbols.proofs.Entering.{words_within, body_enterable, body_full, body_entered, Entering, entering_from, narrow_node, entering_plain, term_enterable, first_word, term_full, entering_term, entering_ended}
+use borrow.Author.Rules.{rules}
+use Rattle.symbols.proofs.+enter_all_enter_term.Goals as goal
+
+pub enter_all-loop-owed-init : goal.enter_all-loop-owed-init
+enter_all-loop-owed-init t c = entering_from c.requires
+
+pub enter_all-overflow_cast-owed : goal.enter_all-overflow_cast-owed
+enter_all-overflow_cast-owed t c = let k = narrow_node c.loop-owed.invariant c.loop-owed-test.true in search rules
+
+pub enter_all-overflow_add-owed-then-part-at-lt-FIRST_METAVARIABLE : goal.enter_all-overflow_add-owed-then-part-at-lt-FIRST_METAVARIABLE
+enter_all-overflow_add-owed-then-part-at-lt-FIRST_METAVARIABLE t c = let k = narrow_node c.loop-owed.invariant c.loop-owed-test.true in search rules
+
+pub enter_all-loop-owed-preserved-then-part-at-lt-FIRST_METAVARIABLE : goal.enter_all-loop-owed-preserved-then-part-at-lt-FIRST_METAVARIABLE
+enter_all-loop-owed-preserved-then-part-at-lt-FIRST_METAVARIABLE t c = entering_plain c.loop-owed.invariant c.loop-owed-test.true c.if-part-at-lt-FIRST_METAVARIABLE.true
+
+pub enter_all-enter_term-requires : goal.enter_all-enter_term-requires
+enter_all-enter_term-requires t c = let e = c.loop-owed.invariant in (rw (from_drop, length-drop) (omega arith), (term_enterable e (omega arith), rw (first_word e (omega arith)) c.if-part-at-lt-FIRST_METAVARIABLE.false))
+
+pub enter_all-returns-in_default : goal.enter_all-returns-in_default
+enter_all-returns-in_default t c = term_full c.loop-owed.invariant c.loop-owed-test.true c.enter_term.ensures c.in_default.is
+
+pub enter_all-overflow_add-at-in-loop-owed : goal.enter_all-overflow_add-at-in-loop-owed
+enter_all-overflow_add-at-in-loop-owed t c = let o = entering_term c.loop-owed.invariant c.loop-owed-test.true c.enter_term.ensures c.enter_term.auto.table c.in-Words.is in search rules
+
+pub enter_all-overflow_add-words-in-loop-owed : goal.enter_all-overflow_add-words-in-loop-owed
+enter_all-overflow_add-words-in-loop-owed t c = let o = entering_term c.loop-owed.invariant c.loop-owed-test.true c.enter_term.ensures c.enter_term.auto.table c.in-Words.is in search rules
+
+pub enter_all-loop-owed-smaller : goal.enter_all-loop-owed-smaller
+enter_all-loop-owed-smaller t c = let k = words_within (term_enterable c.loop-owed.invariant c.loop-owed-test.true) c.enter_term.ensures c.in-Words.is in search rules
+
+pub enter_all-loop-owed-preserved : goal.enter_all-loop-owed-preserved
+enter_all-loop-owed-preserved t c = entering_term c.loop-owed.invariant c.loop-owed-test.true c.enter_term.ensures c.enter_term.auto.table c.in-Words.is
+
+pub enter_all-returns : goal.enter_all-returns
+enter_all-returns t c = entering_ended c.loop-owed.invariant c.loop-owed-test.false
+
+pub enter_term-bounds-part-0 : goal.enter_term-bounds-part-0
+enter_term-bounds-part-0 t c = let r = root_words c.requires.0.begins in search rules
+
+pub enter_term-slice_bounds-enter_all-count : goal.enter_term-slice_bounds-enter_all-count
+enter_term-slice_bounds-enter_all-count t c = let r = root_words c.requires.0.begins in search rules
+
+pub enter_term-slice_bounds-enter_all-start : goal.enter_term-slice_bounds-enter_all-start
+enter_term-slice_bounds-enter_all-start t c = let r = root_words c.requires.0.begins in search rules
+
+pub enter_term-overflow_add-under : goal.enter_term-overflow_add-under
+enter_term-overflow_add-under t c = let b = (body_enterable c.requires.0 c.if-part-eq-ABSTRACTION.true).low in search rules
+
+pub enter_term-enter_all-requires : goal.enter_term-enter_all-requires
+enter_term-enter_all-requires t c = let g = c.requires.0 in let r = root_words g.begins in (rw (from_drop, length-drop) (omega arith), body_enterable g c.if-part-eq-ABSTRACTION.true)
+
+pub enter_term-returns-in_default : goal.enter_term-returns-in_default
+enter_term-returns-in_default t c = body_full c.requires.0 c.if-part-eq-ABSTRACTION.true c.enter_all.ensures c.in_default.is
+
+pub enter_term-overflow_add-result : goal.enter_term-overflow_add-result
+enter_term-overflow_add-result t c = let b = body_enterable c.requires.0 c.if-part-eq-ABSTRACTION.true in let k = words_within b c.enter_all.ensures c.in-Words.is in let s = b.short in search rules
+
+pub enter_term-overflow_add-result-then-part-eq-ABSTRACTION : goal.enter_term-overflow_add-result-then-part-eq-ABSTRACTION
+enter_term-overflow_add-result-then-part-eq-ABSTRACTION t c = let k = words_within (body_enterable c.requires.0 c.if-part-eq-ABSTRACTION.true) c.enter_all.ensures c.in-Words.is in search rules
+
+pub enter_term-returns-then-part-eq-ABSTRACTION : goal.enter_term-returns-then-part-eq-ABSTRACTION
+enter_term-returns-then-part-eq-ABSTRACTION t c = body_entered c.requires.0 c.if-part-eq-ABSTRACTION.true c.enter_all.ensures c.in-Words.is
+
+pub enter_term-enter_metavariable-requires : goal.enter_term-enter_metavariable-requires
+enter_term-enter_metavariable-requires t c = let p = c.requires in (p.0, p.1, below_abstraction p.0.begins c.if-part-eq-ABSTRACTION.false)
+
+pub enter_term-returns : goal.enter_term-returns
+enter_term-returns t c = c.enter_metavariable.ensures

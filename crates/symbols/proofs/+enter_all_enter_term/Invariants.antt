@@ -1,0 +1,24 @@
+-- `enter_all` and `enter_term` meet their contracts. In the loop, what the terms still owed make of the rows that are there is what the subterm makes of
+-- those at the start, and the words counted with theirs are the subterm's. A body is entered by a call, with one abstraction more above it. What falls is
+-- twice the part's length, and one more in `enter_all`, which may lend the whole part.
+use Prim.Native.Nat.{ℕ, ◌+◌, ◌-◌, ◌*◌, ◌<◌}
+use native.Mathlib.Omega.{arith}
+use lib.ListN.{length, drop, length-drop}
+use Rattle.tables.proofs.Parts.{from_drop}
+use Rattle.symbols.specs.Rows.{rows_in}
+use Rattle.tables.proofs.Fronts.{root_words, below_abstraction}
+use Rattle.symbols.proofs.Entering.{words_within, body_enterable, body_full, body_entered, Entering, entering_from, narrow_node, entering_plain, term_enterable, first_word, term_full, entering_term, entering_ended}
+use borrow.Author.Rules.{rules}
+use Rattle.symbols.proofs.+enter_all_enter_term.Given as goal
+
+abbrev pub decreases-enter_all : goal.decreases-enter_all
+decreases-enter_all l = 2 * length l.part.now + 1
+
+abbrev pub decreases-enter_term : goal.decreases-enter_term
+decreases-enter_term l = 2 * length l.part.now
+
+abbrev pub invariant-enter_all-loop-owed : goal.invariant-enter_all-loop-owed
+invariant-enter_all-loop-owed l = Entering l.part l.under (rows_in (drop l.from l.initial.table)) l.table l.owed l.at l.first l.words
+
+abbrev pub decreases-enter_all-loop-owed : goal.decreases-enter_all-loop-owed
+decreases-enter_all-loop-owed l = length l.part - l.at

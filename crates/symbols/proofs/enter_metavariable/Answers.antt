@@ -1,0 +1,52 @@
+-- `enter_metavariable` meets its contract: one that has a row leaves the table as it is, one that has none becomes the first row, unless there is no room.
+use mathlib.Core.Path.{sym, ◌∙◌}
+use native.Mathlib.Omega.{arith}
+use Rattle.tables.proofs.Fronts.{root_words}
+use Rattle.symbols.proofs.Entering.{arguments_narrow, arguments_few, arguments_variables, first_full, first_entered, later_entered}
+use borrow.Author.Rules.{rules}
+use Rattle.symbols.proofs.enter_metavariable.Goals as goal
+
+pub bounds-part-0 : goal.bounds-part-0
+bounds-part-0 c = let r = root_words c.requires.0.begins in search rules
+
+pub bounds-part-1 : goal.bounds-part-1
+bounds-part-1 c = let r = root_words c.requires.0.begins in search rules
+
+pub overflow_cast-read : goal.overflow_cast-read
+overflow_cast-read c = let p = c.requires in let k = arguments_narrow p.0 p.1 p.2 in search rules
+
+pub overflow_mul-read : goal.overflow_mul-read
+overflow_mul-read c = let p = c.requires in let k = arguments_narrow p.0 p.1 p.2 in search rules
+
+pub overflow_add-read : goal.overflow_add-read
+overflow_add-read c = let p = c.requires in let k = arguments_narrow p.0 p.1 p.2 in search rules
+
+pub returns-then-from-eq0 : goal.returns-then-from-eq0
+returns-then-from-eq0 c = let p = c.requires in first_full p.0 p.1 p.2 (sym c.in_default.is ∙ c.find.ensures) c.if-from-eq0.true
+
+pub slice_bounds-enter-count : goal.slice_bounds-enter-count
+slice_bounds-enter-count c = let r = root_words c.requires.0.begins in search rules
+
+pub slice_bounds-enter-start : goal.slice_bounds-enter-start
+slice_bounds-enter-start c = let r = root_words c.requires.0.begins in search rules
+
+pub enter-requires : goal.enter-requires
+enter-requires c = let p = c.requires in let a = arguments_variables p.0 p.1 p.2 in (a.0, a.1, let k = arguments_narrow p.0 p.1 p.2 in let s = p.0.sound in omega arith)
+
+pub overflow_sub-result : goal.overflow_sub-result
+overflow_sub-result c = let p = c.requires in let k = arguments_few p.0 p.1 p.2 in search rules
+
+pub returns-in_default : goal.returns-in_default
+returns-in_default c = let p = c.requires in first_entered p.0 p.1 p.2 (sym c.in_default.is ∙ c.find.ensures) _ c.if-from-eq0.false c.enter.ensures
+
+pub overflow_cast-result-2 : goal.overflow_cast-result-2
+overflow_cast-result-2 c = let p = c.requires in let k = arguments_narrow p.0 p.1 p.2 in search rules
+
+pub overflow_mul-result : goal.overflow_mul-result
+overflow_mul-result c = let p = c.requires in let k = arguments_narrow p.0 p.1 p.2 in search rules
+
+pub overflow_add-result-2 : goal.overflow_add-result-2
+overflow_add-result-2 c = let p = c.requires in let k = arguments_narrow p.0 p.1 p.2 in search rules
+
+pub returns : goal.returns
+returns c = let p = c.requires in later_entered p.0 p.1 p.2 _ (sym c.in-At.is ∙ c.find.ensures)

@@ -1,0 +1,15 @@
+-- `forbid::marks_of` meets its contract: marking what is left of the list gives the marks of the whole list.
+use mathlib.Core.Path.{◌≡◌, refl, sym, ◌∙◌}
+use Prim.Native.Nat.{◌≤◌, ◌-◌}
+use native.Mathlib.Omega.{arith}
+use lib.ListN.{length, drop, length-set}
+use borrow.Author.Rules.{rules}
+use Rattle.tables.specs.Forbidden.{Small, mark_all, marked_with}
+use Rattle.tables.proofs.Free.{mark_from, mark_done, mark_next, small_next}
+use Rattle.tables.proofs.forbid.marks_of.Given as goal
+
+abbrev pub invariant-loop-i : goal.invariant-loop-i
+invariant-loop-i l = (mark_all l.marks (drop l.i l.indices) ≡ marked_with l.indices) × Small (drop l.i l.indices) × (length l.marks ≡ 65) × (l.i ≤ length l.indices)
+
+abbrev pub decreases-loop-i : goal.decreases-loop-i
+decreases-loop-i l = length l.indices - l.i

@@ -1,0 +1,39 @@
+-- `turns::eqi`: the entry that was found is the slot of 01's state, its depth at most 63; then each test in the code's order. The guard's set and the
+-- first indices are all below b exactly where they cover it.
+use mathlib.Core.Path.{sym, ◌∙◌}
+use native.Mathlib.Omega.{arith}
+use borrow.Author.Tests.{not-true, not-false}
+use Rattle.turns.proofs.Turning.{eqi_missing, eqi_other, eqi_past, eqi_many, eqi_high, eqi_bare, eqi_there}
+use Rattle.turns.proofs.Entered.{found_low}
+use borrow.Author.Rules.{rules}
+use Rattle.turns.proofs.eqi.Goals as goal
+
+pub returns-in_default : goal.returns-in_default
+returns-in_default c = eqi_missing _ _ _ _ (sym c.find.ensures ∙ c.in_default.is)
+
+pub overflow_sub-d : goal.overflow_sub-d
+overflow_sub-d c = let l = found_low _ _ _ _ (sym c.find.ensures ∙ c.in-Entry.is) c.requires.2 in search rules
+
+pub returns-then-code-at : goal.returns-then-code-at
+returns-then-code-at c = let l = found_low _ _ _ _ (sym c.find.ensures ∙ c.in-Entry.is) c.requires.2 in eqi_other _ _ _ _ _ _ (sym c.find.ensures ∙ c.in-Entry.is) (λ q. c.if-code-at.true (omega arith))
+
+pub returns-then-code-at-gt-MOST_PAIRS : goal.returns-then-code-at-gt-MOST_PAIRS
+returns-then-code-at-gt-MOST_PAIRS c = let l = found_low _ _ _ _ (sym c.find.ensures ∙ c.in-Entry.is) c.requires.2 in eqi_many _ _ _ _ _ _ (sym c.find.ensures ∙ c.in-Entry.is) (omega arith) c.if-code-at-gt-MOST_PAIRS.true
+
+pub returns-then-code-end : goal.returns-then-code-end
+returns-then-code-end c = let l = found_low _ _ _ _ (sym c.find.ensures ∙ c.in-Entry.is) c.requires.2 in eqi_past _ _ _ _ _ _ (sym c.find.ensures ∙ c.in-Entry.is) (omega arith) c.if-code-end.true
+
+pub firsts-requires : goal.firsts-requires
+firsts-requires c = found_low _ _ _ _ (sym c.find.ensures ∙ c.in-Entry.is) c.requires.2
+
+pub returns-in_default-firsts : goal.returns-in_default-firsts
+returns-in_default-firsts c = let l = found_low _ _ _ _ (sym c.find.ensures ∙ c.in-Entry.is) c.requires.2 in eqi_high _ _ _ _ _ _ (sym c.find.ensures ∙ c.in-Entry.is) (omega arith) _ (omega arith) (omega arith) c.firsts.ensures c.in_default-firsts.is
+
+pub all_below-requires : goal.all_below-requires
+all_below-requires c = found_low _ _ _ _ (sym c.find.ensures ∙ c.in-Entry.is) c.requires.2
+
+pub returns-then-not-all_below : goal.returns-then-not-all_below
+returns-then-not-all_below c = let l = found_low _ _ _ _ (sym c.find.ensures ∙ c.in-Entry.is) c.requires.2 in eqi_bare _ _ _ _ _ _ (sym c.find.ensures ∙ c.in-Entry.is) (omega arith) _ (omega arith) (omega arith) c.firsts.ensures _ c.in-Of.is (sym c.all_below.ensures ∙ c.if-not-all_below.true)
+
+pub returns : goal.returns
+returns c = let l = found_low _ _ _ _ (sym c.find.ensures ∙ c.in-Entry.is) c.requires.2 in eqi_there _ _ _ _ _ _ (sym c.find.ensures ∙ c.in-Entry.is) (omega arith) _ (omega arith) (omega arith) c.firsts.ensures _ c.in-Of.is (sym c.all_below.ensures ∙ c.if-not-all_below.false)
