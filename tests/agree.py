@@ -15,21 +15,17 @@ CHUNK = 20  # vectors a declaration: each is computed under a step limit of its 
 CRATES = {"documents": "", "kahrs": "documents", "safety": "documents kahrs", "compiled": "documents kahrs", "rewriting": "documents kahrs safety compiled"}
 
 SPECS = """-- Vectors of the second implementation, and when a definition agrees with one.
-use Prim.Native.Nat.{ℕ}
-use mathlib.Core.Bool.{Bool, true, false, _&&_, cond}
-use mathlib.Core.List.{List, [], _∷_, _++_}
-use lib.Dec.{eqb}
-use lib.ListN.{replicate}
-use Rattle·documents.specs.Examples.{sameWords}
-use Rattle·documents.specs.Calls.{ReadAnswer, readCall, CompileAnswer, compileCall, checkCall, RunAnswer, runCall, WatchAnswer, watchCall, planApply}
-use Rattle·rewriting.specs.ListCall.{ListAnswer, listCall}
+use Rattle.std.specs.Prelude.{ℕ, Bool, ◌&&◌, cond, List, [], ◌∷◌, ◌++◌, eqb, replicate}
+use Rattle.documents.specs.Examples.{same_words}
+use Rattle.documents.specs.Calls.{ReadAnswer, read_call, CompileAnswer, compile_call, check_call, RunAnswer, run_call, WatchAnswer, watch_call, plan_apply}
+use Rattle.rewriting.specs.ListCall.{ListAnswer, list_call}
 
 -- a lent table afterwards: the words at its front, and what fills the rest
 pub data After : Type 0 where
   after : List ℕ → ℕ → ℕ → After
 
 abbrev pub is : List ℕ → After → Bool
-is ws (after front rest fill) = sameWords ws (front ++ replicate rest fill)
+is ws (after front rest fill) = same_words ws (front ++ replicate rest fill)
 
 pub data Vector : Type 0 where
   reads : List ℕ → List ℕ → List ℕ → List ℕ → List ℕ → After → After → After → Vector
@@ -40,48 +36,45 @@ pub data Vector : Type 0 where
   watches : List ℕ → List ℕ → ℕ → List ℕ → Vector
   applies : List ℕ → List ℕ → Vector
 
-abbrev pub readAgrees : ReadAnswer → List ℕ → After → After → After → Bool
-readAgrees a ns l r s =
-    sameWords (a .number ∷ a .leftWords ∷ a .rightWords ∷ a .subjectWords ∷ []) ns && is (a .left) l && is (a .right) r && is (a .subject) s
+abbrev pub read_agrees : ReadAnswer → List ℕ → After → After → After → Bool
+read_agrees a ns l r s =
+    same_words (a.number ∷ a.left_words ∷ a.right_words ∷ a.subject_words ∷ []) ns && is a.left l && is a.right r && is a.subject s
 
-abbrev pub compileAgrees : CompileAnswer → List ℕ → After → Bool
-compileAgrees a ns c = sameWords (a .number ∷ a .words ∷ []) ns && is (a .code) c
+abbrev pub compile_agrees : CompileAnswer → List ℕ → After → Bool
+compile_agrees a ns c = same_words (a.number ∷ a.words ∷ []) ns && is a.code c
 
-abbrev pub runAgrees : RunAnswer → List ℕ → After → After → Bool
-runAgrees a ns w r = sameWords (a .number ∷ a .words ∷ []) ns && is (a .working) w && is (a .result) r
+abbrev pub run_agrees : RunAnswer → List ℕ → After → After → Bool
+run_agrees a ns w r = same_words (a.number ∷ a.words ∷ []) ns && is a.working w && is a.result r
 
-abbrev pub listAgrees : ListAnswer → List ℕ → After → After → Bool
-listAgrees a ns w r = sameWords (a .number ∷ a .words ∷ a .rewrites ∷ cond (a .normal) 1 0 ∷ []) ns && is (a .working) w && is (a .result) r
+abbrev pub list_agrees : ListAnswer → List ℕ → After → After → Bool
+list_agrees a ns w r = same_words (a.number ∷ a.words ∷ a.rewrites ∷ cond a.normal 1 0 ∷ []) ns && is a.working w && is a.result r
 
-abbrev pub watchAgrees : WatchAnswer → List ℕ → Bool
-watchAgrees a ns = sameWords (a .number ∷ a .current ∷ a .entries ∷ a .finished ∷ a .node ∷ []) ns
+abbrev pub watch_agrees : WatchAnswer → List ℕ → Bool
+watch_agrees a ns = same_words (a.number ∷ a.current ∷ a.entries ∷ a.finished ∷ a.node ∷ []) ns
 
 abbrev pub agrees : Vector → Bool
-agrees (reads bytes l r s ns l′ r′ s′) = readAgrees (readCall bytes l r s) ns l′ r′ s′
-agrees (compiles l r c ns c′) = compileAgrees (compileCall l r c) ns c′
-agrees (checks c n) = eqb (checkCall c) n
-agrees (runs c s w r ns w′ r′) = runAgrees (runCall c s w r) ns w′ r′
-agrees (lists rs s n w r ns w′ r′) = listAgrees (listCall rs s n w r) ns w′ r′
-agrees (watches c s i ns) = watchAgrees (watchCall c s i) ns
-agrees (applies bytes line) = sameWords (planApply bytes) line
+agrees (reads bytes l r s ns l′ r′ s′) = read_agrees (read_call bytes l r s) ns l′ r′ s′
+agrees (compiles l r c ns c′) = compile_agrees (compile_call l r c) ns c′
+agrees (checks c n) = eqb (check_call c) n
+agrees (runs c s w r ns w′ r′) = run_agrees (run_call c s w r) ns w′ r′
+agrees (lists rs s n w r ns w′ r′) = list_agrees (list_call rs s n w r) ns w′ r′
+agrees (watches c s i ns) = watch_agrees (watch_call c s i) ns
+agrees (applies bytes line) = same_words (plan_apply bytes) line
 """
 
-PROOFS = """use mathlib.Core.Path.{_≡_, refl}
-use mathlib.Core.Bool.{true}
-use mathlib.Core.List.{List, [], _∷_}
-use Prim.Native.Nat.{ℕ}
-use lib.ListN.{replicate}
-use Rattle·documents.specs.Lists.{every}
-use Rattle·documents.specs.Instructions.{programFrom, plainIn}
-use Rattle·documents.specs.Numbers.{tableIn, subjectIn, ruleIn, codeIn, resultFor}
-use Rattle·documents.specs.Calls.{fileIn, readCall, compileCall, checkCall, runs as runs-of, runCall, watches as watches-of, watchCall, planLine, planApply}
-use Rattle·rewriting.specs.Rewrites.{once}
-use Rattle·rewriting.specs.RuleTable.{rulesIn}
-use Rattle·rewriting.specs.ListCall.{rewrites, listRuns, listCall}
-use Rattle·agree·specs.specs.Vectors.{After, after, Vector, reads, compiles, checks, runs, lists, watches, applies, agrees}
+PROOFS = """use mathlib.Core.Path.{◌≡◌, refl}
+use Rattle.std.specs.Prelude.{ℕ, true, List, [], ◌∷◌, replicate}
+use Rattle.documents.specs.Lists.{every}
+use Rattle.documents.specs.Instructions.{program_from, plain_in}
+use Rattle.documents.specs.Numbers.{table_in, subject_in, rule_in, code_in, result_for}
+use Rattle.documents.specs.Calls.{file_in, read_call, compile_call, check_call, runs as runs_of, run_call, watches as watches_of, watch_call, plan_line, plan_apply}
+use Rattle.rewriting.specs.Rewrites.{once}
+use Rattle.rewriting.specs.RuleTable.{rules_in}
+use Rattle.rewriting.specs.ListCall.{rewrites, list_runs, list_call}
+use Rattle.agree.specs.Vectors.{After, after, Vector, reads, compiles, checks, runs, lists, watches, applies, agrees}
 """
-UNFOLDING = ("unfolding programFrom plainIn tableIn subjectIn ruleIn codeIn resultFor fileIn readCall compileCall checkCall runs-of runCall "
-             "watches-of watchCall planLine planApply once rulesIn rewrites listRuns listCall\n")
+UNFOLDING = ("unfolding program_from plain_in table_in subject_in rule_in code_in result_for file_in read_call compile_call check_call runs_of run_call "
+             "watches_of watch_call plan_line plan_apply once rules_in rewrites list_runs list_call\n")
 
 
 class Line:
@@ -147,8 +140,8 @@ class Line:
 
 def declarations(vectors):
     for i in range(0, len(vectors), CHUNK):
-        yield (f"\nabbrev vectors-{i} : List Vector\nvectors-{i} =\n    " + "\n    ∷ ".join(vectors[i:i + CHUNK]) + "\n    ∷ []\n"
-               f"\nagreed-{i} : every agrees vectors-{i} ≡ true\n{UNFOLDING}agreed-{i} = refl\n")
+        yield (f"\nabbrev vectors_{i} : List Vector\nvectors_{i} =\n    " + "\n    ∷ ".join(vectors[i:i + CHUNK]) + "\n    ∷ []\n"
+               f"\nagreed_{i} : every agrees vectors_{i} ≡ true\n{UNFOLDING}agreed_{i} = refl\n")
 
 
 def write(path, text):
@@ -168,13 +161,12 @@ def main():
         for crate in CRATES:
             shutil.copytree(f"{ROOT}/crates/{crate}", f"{repo}/crates/{crate}", ignore=shutil.ignore_patterns("must-fail"))
         write(f"{repo}/crates.txt", "".join(f"{crate}: {needs}\n" for crate, needs in CRATES.items()) + "agree: documents rewriting\n")
-        write(f"{repo}/crates/agree/src/lib.rt", "// Vectors only.\n")
+        write(f"{repo}/crates/agree/src/lib.rt", "// Vectors only.\n#![tactic(auto)]\n")
         write(f"{repo}/crates/agree/specs/Lib.antt", "pub mod Vectors\n")
         write(f"{repo}/crates/agree/specs/Vectors.antt", SPECS)
         write(f"{repo}/crates/agree/proofs/Lib.antt", "pub mod Agree\n")
         write(f"{repo}/crates/agree/proofs/Agree.antt", PROOFS + "".join(declarations(vectors)))
-        done = subprocess.run(["rt", "check", "agree"], cwd=repo, text=True, stdout=subprocess.PIPE, stderr=subprocess.STDOUT,
-                              env={**os.environ, "RT_CUT": "400"})
+        done = subprocess.run(["rt", "check"], cwd=f"{repo}/crates/agree", text=True, stdout=subprocess.PIPE, stderr=subprocess.STDOUT)
         if done.returncode != 0:
             print(done.stdout)
             sys.exit("agree: not shown: 'expected type' above names vectors that differ, 'step limit' such as compute too long (lower MOST)")
