@@ -46,7 +46,7 @@ edits = [f"{e.parent.parent.name}/{e.stem}" for e in sorted(root.glob("crates/*/
 hold("theorem", theorems(), named_theorems)
 hold("edit", edits, named_edits)
 
-sources = [f for pattern in ("*.antt", "*.rt") for f in (root / "crates").rglob(pattern)]
+sources = [f for part in ("src", "specs", "proofs") for f in (root / "crates").glob(f"*/{part}/**/*") if f.suffix in (".antt", ".rt")]
 words = set(re.split(r"[\s(){}\[\],;:.`'\"]+", "\n".join(f.read_text() for f in sources)))
 outside = {"requires", "ensures", "memset", "memcpy", "read", "write"}
 wrong.extend(f"no name `{n}` in the crates" for n in sorted(names - words - outside))
