@@ -1,6 +1,6 @@
 #!/usr/bin/env bash
 # run.sh [CALL...]: the tables of docs/BENCHMARKS.md, of these calls or of all. A call's instructions are (those of 11 calls - those of 1) / 10;
-# then the bytes of stack that a call writes to. Needs target/staticlib/libreedbiscuit.a (rt staticlib reedbiscuit) and on x86-64 valgrind. The
+# then the bytes of stack that a call writes to. Needs target/staticlib/libreedbiscuit.a (bash program/staticlib.sh) and on x86-64 valgrind. The
 # library is x86-64 code: on another machine the kit's emulator counts its instructions, and those of the second implementation, made x86-64
 # code too (second_in_c/).
 set -euo pipefail

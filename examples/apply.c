@@ -1,7 +1,7 @@
 /*
  * A rule file on standard input, one line on standard output, as plan_apply has it: what a firmware author may start from.
  *
- *     rt staticlib reedbiscuit
+ *     bash program/staticlib.sh
  *     gcc -I include examples/apply.c target/staticlib/libreedbiscuit.a -o apply
  *     ./apply < examples/beta.rule
  */

@@ -1,7 +1,7 @@
 //! A rule file on standard input, one line on standard output, as plan_apply has it: what a Rust
 //! program may start from.
 //!
-//!     rt staticlib reedbiscuit
+//!     bash program/staticlib.sh
 //!     rustc --edition 2021 -L target/staticlib -l static=reedbiscuit examples/apply.rs
 //!     ./apply < examples/beta.rule
 

@@ -1,6 +1,6 @@
 #!/usr/bin/env bash
 # link.sh: links apply.c and apply.rs with the library, runs each on every rule file here and compares its line with the one that is written
-# beside the file; rewrite.c the same, on every list of rewrite/. Needs target/staticlib/libreedbiscuit.a (rt staticlib reedbiscuit), which is
+# beside the file; rewrite.c the same, on every list of rewrite/. Needs target/staticlib/libreedbiscuit.a (bash program/staticlib.sh), which is
 # x86-64 code on every machine. Elsewhere the C programs are linked with it and run by the kit's own tools (program/build.sh), and then all
 # programs with the same crates as code for the machine at hand (program/unproved), since its gcc and rustc make no other.
 set -euo pipefail

@@ -1,7 +1,7 @@
 /*
  * A whole plan rewritten by a list of rules: what a planner may use as it is, and a firmware author may start from.
  *
- *     rt staticlib reedbiscuit
+ *     bash program/staticlib.sh
  *     gcc -I include examples/rewrite.c target/staticlib/libreedbiscuit.a -o rewrite
  *     ./rewrite 1000 examples/rewrite/feeding/1.rule examples/rewrite/feeding/2.rule examples/rewrite/feeding/3.rule
  *

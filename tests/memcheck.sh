@@ -1,7 +1,7 @@
 #!/usr/bin/env bash
 # memcheck.sh [SHARE]: valgrind's memcheck over examples/apply.c, on every rule file, over examples/rewrite.c, on every list, and over the calls
 # of the comparison tests (linked/), one of SHARE seeds, 100 if none is said: no error, no leak. Needs gcc, valgrind, the kit and
-# target/staticlib/libreedbiscuit.a (rt staticlib reedbiscuit). Where valgrind cannot run that, which is x86-64 code, it runs the same crates
+# target/staticlib/libreedbiscuit.a (bash program/staticlib.sh). Where valgrind cannot run that, which is x86-64 code, it runs the same crates
 # as code for this machine.
 set -euo pipefail
 cd "$(dirname "$0")/.."

@@ -5,7 +5,7 @@ use std::env;
 use std::path::Path;
 use std::process::{Command, ExitCode};
 
-/// Where `rt staticlib reedbiscuit` writes, seen from this package.
+/// Where `bash program/staticlib.sh` writes, seen from this package.
 const STATICLIB: &str = "../../target/staticlib";
 const ARCHIVE: &str = "libreedbiscuit.a";
 /// Links a C program with the library.
@@ -30,7 +30,7 @@ fn prepare() -> Result<(), String> {
     }
     if !archive.exists() {
         let place = archive.display();
-        return Err(format!("no {place}: run 'rt staticlib reedbiscuit' in the repository first"));
+        return Err(format!("no {place}: run 'bash program/staticlib.sh' in the repository first"));
     }
     // The archive has x86-64 code, whatever machine proved it.
     let links = env::var("CARGO_CFG_TARGET_ARCH").is_ok_and(|arch| arch == "x86_64");
