@@ -159,7 +159,7 @@ def main():
     vectors = [line.vector() for line in lines]
     with tempfile.TemporaryDirectory() as repo:
         for crate in CRATES:
-            shutil.copytree(f"{ROOT}/crates/{crate}", f"{repo}/crates/{crate}", ignore=shutil.ignore_patterns("must-fail"))
+            shutil.copytree(f"{ROOT}/crates/{crate}", f"{repo}/crates/{crate}", ignore=shutil.ignore_patterns("must-fail", "out"))
         write(f"{repo}/crates.txt", "".join(f"{crate}: {needs}\n" for crate, needs in CRATES.items()) + "agree: documents rewriting\n")
         write(f"{repo}/crates/agree/src/lib.rt", "// Vectors only.\n#![tactic(auto)]\n")
         write(f"{repo}/crates/agree/specs/Lib.antt", "pub mod Vectors\n")
