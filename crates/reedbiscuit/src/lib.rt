@@ -1,4 +1,5 @@
-// The C interface: each call hands its slices on to the crate that does the work, and gives the answer back as 01's numbers.
+// The calls of the C interface: each hands its slices on to the crate that does the work, and gives the answer back as 01's numbers. `reedbiscuit_c` exports
+// them to C.
 #![tactic(auto)]
 
 ghost use Rattle.reedbiscuit.specs.Answers.{Reads, Compiles, Checks, Runs, ListRuns, Watches};
@@ -9,8 +10,7 @@ use answers::{
 };
 
 // Document 01's reader: the words of a file's three tables at the front of the lent ones.
-#[unsafe(no_mangle)]
-pub extern "C" fn reed_read(
+pub fn reed_read(
     file: &[u8],
     left: &mut [u32],
     right: &mut [u32],
@@ -22,24 +22,21 @@ pub extern "C" fn reed_read(
 }
 
 // Document 01's compile: a rule's code at the front of the lent code table.
-#[unsafe(no_mangle)]
-pub extern "C" fn reed_compile(left: &[u32], right: &[u32], code: &mut [u32]) -> ReedAnswer
+pub fn reed_compile(left: &[u32], right: &[u32], code: &mut [u32]) -> ReedAnswer
     ensures { Compiles left.now right.now code.old result code.new }
 {
     of_compile(compiler::compile(left, right, code))
 }
 
 // Document 01's check: whether code passes, whoever compiled it.
-#[unsafe(no_mangle)]
-pub extern "C" fn reed_check(code: &[u32]) -> u32
+pub fn reed_check(code: &[u32]) -> u32
     ensures { Checks code.now result }
 {
     of_check(checker::check(code))
 }
 
 // Document 01's run: code applied at the root of a subject, the result at the front of the lent result table.
-#[unsafe(no_mangle)]
-pub extern "C" fn reed_run(
+pub fn reed_run(
     code: &[u32],
     subject: &[u32],
     working: &mut [u32],
@@ -52,8 +49,7 @@ pub extern "C" fn reed_run(
 
 // Document 02's list run, request 1: a list of rules applied to a whole plan until none matches, or so many times; the last plan at the front of the
 // lent result table.
-#[unsafe(no_mangle)]
-pub extern "C" fn reed_list_run(
+pub fn reed_list_run(
     rules: &[u32],
     subject: &[u32],
     rewrites: u32,
@@ -66,8 +62,7 @@ pub extern "C" fn reed_list_run(
 }
 
 // Document 01's watch: the machine's counts after the first i outermost instructions.
-#[unsafe(no_mangle)]
-pub extern "C" fn reed_watch(code: &[u32], subject: &[u32], i: u32) -> ReedWatchAnswer
+pub fn reed_watch(code: &[u32], subject: &[u32], i: u32) -> ReedWatchAnswer
     ensures { Watches code.now subject.now i result }
 {
     of_watch(watcher::watch(code, subject, i))
