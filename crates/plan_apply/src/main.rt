@@ -4,35 +4,31 @@
 
 ghost use Rattle.plan.specs.Line.{Counts};
 
-use libc::{STDIN_FILENO, STDOUT_FILENO};
 use plan::{FILE_BYTES, LINE_BYTES};
+use std::io::{Print, Read};
 
 // A byte more than the longest file has, so that a longer one is seen to be longer, and refused.
 const TAKEN_BYTES: usize = FILE_BYTES + 1;
 
-fn main() {
+fn main(rt: HostRuntime) {
     let mut file = [0u8; TAKEN_BYTES];
-    let length = take_file(&mut file);
+    let length = take_file(&mut rt.stdin(), &mut file);
     let mut line = [0u8; LINE_BYTES];
     let bytes = plan::line_for(&file[..length], &mut line);
-    io::write_all(STDOUT_FILENO, &line[..bytes]);
+    let _ = rt.write_all(&line[..bytes]);
 }
 
-// Reads standard input to its end, or until the lent bytes are full. What cannot be read is no file: it is taken for an empty one.
-fn take_file(file: &mut [u8]) -> usize
+// Reads the input to its end, or until the lent bytes are full. What cannot be read is no file: it is taken for an empty one.
+fn take_file<R: Read>(input: &mut R, file: &mut [u8]) -> usize
     ensures { Counts result file.new }
 {
     let mut taken: usize = 0;
     while taken < file.len() {
-        let got = libc::read(STDIN_FILENO, &mut file[taken..]);
-        if got < 0 {
-            return 0;
+        match input.read(&mut file[taken..]) {
+            Err(_) => return 0,
+            Ok(0) => return taken,
+            Ok(more) => taken += more,
         }
-        let more = io::count(got, &file[taken..]);
-        if more == 0 {
-            return taken;
-        }
-        taken += more;
     }
     taken
 }
