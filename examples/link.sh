@@ -1,8 +1,7 @@
 #!/usr/bin/env bash
 # link.sh: links apply.c and apply.rs with the library, runs each on every rule file here and compares its line with the one that is written
 # beside the file; rewrite.c the same, on every list of rewrite/. Needs target/staticlib/libreedbiscuit.a (bash program/staticlib.sh), which is
-# x86-64 code on every machine. Elsewhere the C programs are linked with it and run by the kit's own tools (program/build.sh), and then all
-# programs with the same crates as code for the machine at hand (program/unproved), since its gcc and rustc make no other.
+# x86-64 code.
 set -euo pipefail
 cd "$(dirname "$0")/.."
 
@@ -44,11 +43,8 @@ rewrite_lists() {
 }
 
 if [ "$(uname -m)" != x86_64 ]; then
-    for program in apply rewrite; do sh program/build.sh "examples/$program.c" "$folder/libreedbiscuit.a" "$made"; done
-    print_lines 'apply.c, emulated' "$made/apply"
-    rewrite_lists 'rewrite.c, emulated' "$made/rewrite"
-    folder=$made/native
-    bash program/unproved/build.sh native "$folder"
+    echo "link: the library is x86-64 code, the kit makes no other, and this machine is $(uname -m)" >&2
+    exit 1
 fi
 
 for program in apply rewrite; do

@@ -1,24 +1,19 @@
 #!/bin/sh
-# build.sh SOURCE ARCHIVE OUT: links a C program with the library's archive as an x86-64 program, and writes OUT/NAME, a command that runs
-# it on this machine; NAME is the source's name without .c. Compiler, C library, loader and emulator are the kit's own, used as rt uses
-# them for a proved program.
+# build.sh SOURCE ARCHIVE OUT: links a C program with the library's archive and writes OUT/NAME, a program for this machine; NAME is the source's
+# name without .c. Compiler, linker and C library are the kit's own, as rt has them for a proved program; like the library they make x86-64 code,
+# and no other.
 set -eu
 source=$1 archive=$2 out=$3
 name=$(basename "$source" .c)
 here=$(cd "$(dirname "$0")" && pwd -P)
-kit=$(dirname "$(dirname "$(rt doc)")")
-own=$kit/on/$(uname -m)
-tools=$own/toolchain
+kit=$(dirname "$(rt doc)")
+tools=$kit/toolchain
 target=x86_64-unknown-linux-gnu
 
+if [ "$(uname -m)" != x86_64 ]; then
+    echo "build.sh: the kit's tools are for x86-64, and this machine is $(uname -m)" >&2
+    exit 1
+fi
 "$tools/bin/clang" --target=$target -std=c99 -O2 -fPIC -Wall -Wextra -Werror -nostdinc -isystem "$here/freestanding" \
     -I "$here/../include" -c "$source" -o "$out/$name.o"
-"$own/bin/rattle-link" --target $target --toolchain "$tools" -o "$out/$name.elf" "$out/$name.o" "$archive"
-
-emulator=$tools/bin/qemu-x86_64
-[ -x "$emulator" ] || emulator=''
-cat >"$out/$name" <<END
-#!/bin/sh
-exec ${emulator:+"'$emulator'"} '$tools/lib/ld-linux-x86-64.so.2' --library-path '$tools/lib' '$out/$name.elf' "\$@"
-END
-chmod +x "$out/$name"
+"$kit/bin/rattle-link" --target $target --toolchain "$tools" -o "$out/$name" "$out/$name.o" "$archive"

@@ -3,20 +3,23 @@
 # first time, since all that it is made of is proved.
 set -euo pipefail
 root=$(cd "$(dirname "$0")/.." && pwd -P)
-program=$root/target/bin/plan_apply
-# When the program was last known to be what the crates say. Its own time does not tell: rt leaves it alone where nothing that it needs changed.
+crate=$root/crates/plan_apply
+program=$crate/out/plan_apply
+# When the program was last known to be what the crates say: the gate notes it too, after its rt ci. Its own time does not tell: rt leaves it alone
+# where nothing that it needs changed.
 known=$root/target/plan_apply.known
 
-# rt's own lines go to standard error (the rest is in target/log), and nothing here reads standard input: it and standard output are plan_apply's.
-if [ ! -x "$program" ] || [ ! -e "$known" ] || [ -n "$(find "$root/crates" "$root/crates.txt" -newer "$known" -print -quit)" ]; then
+# What rt makes stands in the crates' out/, and changes nothing that they say.
+is_older() {
+    [ "$root/crates.txt" -nt "$known" ] || [ -n "$(find "$root/crates" -mindepth 2 -path '*/crates/*/out' -prune -o -newer "$known" -print -quit)" ]
+}
+
+# rt's own lines go to standard error, and nothing here reads standard input: it and standard output are plan_apply's.
+if [ ! -x "$program" ] || [ ! -e "$known" ] || is_older; then
     mkdir -p "$root/target"
     touch "$known.begun"
-    (cd "$root" && rt check plan_apply) </dev/null 2>&1 | grep '^rt: ' >&2
+    (cd "$crate" && rt run </dev/null 2>&1) | { grep '^\(rt\|fn\|note\|help\|logic=\)' >&2 || true; }
     mv "$known.begun" "$known"
 fi
 
-# An x86-64 program on every machine, under the kit's loader and C library, and elsewhere under its emulator, as rt itself runs it.
-tools=$(dirname "$(dirname "$(rt doc)")")/on/$(uname -m)/toolchain
-emulator=$tools/bin/qemu-x86_64
-[ -x "$emulator" ] || emulator=''
-exec ${emulator:+"$emulator"} "$tools/lib/ld-linux-x86-64.so.2" --library-path "$tools/lib" "$program"
+exec "$program"

@@ -32,7 +32,7 @@ fn prepare() -> Result<(), String> {
         let place = archive.display();
         return Err(format!("no {place}: run 'bash program/staticlib.sh' in the repository first"));
     }
-    // The archive has x86-64 code, whatever machine proved it.
+    // The archive has x86-64 code, and the kit's tools make and run no other.
     let links = env::var("CARGO_CFG_TARGET_ARCH").is_ok_and(|arch| arch == "x86_64");
     if links {
         println!("cargo::rustc-link-search=native={}", folder.display());
