@@ -20,9 +20,9 @@ USE = re.compile(r"^(?:ghost )?use ([^\s;{]+?)(?:\.\{([^}]*)\})?(?: as \S+)?;?$"
 # A law that would have its function's name once both are in snake case ends in _lem; port.py had turned some of these already.
 MET = {"and-false", "append-nil", "max-zero"}  # of the kit too: they stay
 LAWS = (
-    "after_read body_end goes_in is_found is_one not_done one_number only_one reach_of run_ends turned_word word_count".split()
+    "after_read body_end goes_in is_found is_one not_done one_number only_one reach_of run_ends word_count".split()
 )
-BY_HAND = {"depth-of": "depth_of_lem", "own-words": "own_words_lem", "first_of": "put_first"}  # first_of is a tactic
+BY_HAND = {"depth-of": "depth_of_lem", "own-words": "own_words_lem", "turned-word": "turned_word_lem", "first_of": "put_first"}  # first_of is a tactic
 FOLDER = re.compile(r"crates/\w+/proofs/.*/")
 MADE = re.compile(r"^(invariant|decreases|loop|the|goal|ghost)-|-spec$|-Inv-|^(M|row)$")
 
@@ -38,7 +38,7 @@ def files(*endings):
 def snake(part):
     if part[0].isupper():
         return part
-    return re.sub(r"(?<=[a-z0-9])([A-Z]+)(?=[a-z]|$|[A-Z])", lambda m: "_" + m[1].lower(), part)
+    return re.sub(r"(?<=[a-z0-9])([A-Z]+)(?=[a-z0-9]|$|[A-Z])", lambda m: "_" + m[1].lower(), part)
 
 
 def spelled(name):

@@ -1,9 +1,9 @@
 -- What was measured is what the definitions ask of the term: each refusal that is due, and where none is, a tree that stands ready to be written.
-use mathlib.Core.Path.{◌≡◌, refl, sym, ap, ◌∙◌}
+use mathlib.Core.Path.{◌≡◌, sym, ◌∙◌}
 use Prim.Native.Nat.{ℕ, ◌+◌, ◌*◌, ◌-◌, ◌≤◌, ◌<◌}
 use native.Mathlib.Omega.{arith}
 use mathlib.Core.Bool.{Bool, true, false}
-use mathlib.Core.List.{List, []}
+use mathlib.Core.List.{List}
 use lib.Dec.{leb}
 use lib.ListN.{length, get_or, drop}
 use borrow.Author.Tests.{le-leb, lt-leb, leb-true}
@@ -16,7 +16,7 @@ use Rattle.documents.specs.Tables.{table_of, nodes, indices}
 use Rattle.documents.specs.Numbers.{answered, refused}
 use Rattle.documents.proofs.Numbers.{unless_is}
 use Rattle.documents.proofs.Tables.{length_table_of}
-use Rattle.trees.specs.Trees.{Tree, Cell, Block, Bound, Whole, Pushed, nodes_of, depth_of, reach_of, words_of}
+use Rattle.trees.specs.Trees.{Tree, Cell, Block, Bound, Whole, Pushed, nodes_of, depth_of, reach_of}
 use Rattle.trees.proofs.Made.{Told}
 use Rattle.links.specs.Links.{depth_in, capped}
 use Rattle.links.specs.Standing.{entry_at, Scene, root, Stands}

@@ -140,8 +140,8 @@ abbrev key_missing : List ℕ
 key_missing = 13 ∷ 1 ∷ 63 ∷ 0 ∷ []
 
 -- the file of P9
-abbrev file_ofP9 : List ℕ
-file_ofP9 =
+abbrev file_of_p9 : List ℕ
+file_of_p9 =
     1 ∷ 0 ∷ 0 ∷ 0 ∷ 4 ∷ 0 ∷ 1 ∷ 0 ∷ 4 ∷ 0 ∷ 0 ∷ 0 ∷ 1 ∷ 0 ∷ 2 ∷ 0 ∷ 1 ∷ 0 ∷ 0 ∷ 0 ∷ 0
     ∷ 0 ∷ 0 ∷ 0 ∷ 6 ∷ 0 ∷ 1 ∷ 0 ∷ 4 ∷ 0 ∷ 0 ∷ 0 ∷ 1 ∷ 0 ∷ 3 ∷ 0 ∷ 0 ∷ 0 ∷ 0 ∷ 0 ∷ 1 ∷ 0 ∷ 2 ∷ 0 ∷ 1 ∷ 0 ∷ 0 ∷ 0 ∷ 0
     ∷ 0 ∷ 0 ∷ 0 ∷ 4 ∷ 0 ∷ 1 ∷ 0 ∷ 4 ∷ 0 ∷ 0 ∷ 0 ∷ 1 ∷ 0 ∷ 0 ∷ 255 ∷ 254 ∷ 0 ∷ 0 ∷ 0 ∷ 0 ∷ []
@@ -184,9 +184,9 @@ table =
     ∷ checks (match_b ++ immediate_in_body) 11
     ∷ checks (match_b ++ key_missing) 11
     -- files: P9's, one byte more, one less, another version, none
-    ∷ applies file_ofP9 (done_with (F (just (Abst (Var 65535)))))
-    ∷ applies (file_ofP9 ++ (0 ∷ [])) (refusal 17)
-    ∷ applies (take 68 file_ofP9) (refusal 17)
-    ∷ applies (2 ∷ drop 1 file_ofP9) (refusal 17)
+    ∷ applies file_of_p9 (done_with (F (just (Abst (Var 65535)))))
+    ∷ applies (file_of_p9 ++ (0 ∷ [])) (refusal 17)
+    ∷ applies (take 68 file_of_p9) (refusal 17)
+    ∷ applies (2 ∷ drop 1 file_of_p9) (refusal 17)
     ∷ applies [] (refusal 17)
     ∷ []

@@ -124,7 +124,7 @@ or_moved (some x) D y = x
 abbrev pub renaming : List (ℕ × ℕ) → ℕ → ℕ → ℕ
 renaming ps D y = or_moved (assoc ps y) D y
 
--- 004's equal k: the comparison as it goes on below k abstractions, with `.. + k = y` for its `.. = y - k`. (Law `Equal-is`: it is that of the
+-- 004's equal k: the comparison as it goes on below k abstractions, with `.. + k = y` for its `.. = y - k`. (Law `equal_is`: it is that of the
 -- renamed entry.)
 abbrev pub equal_under : {s : Sort} → List (ℕ × ℕ) → ℕ → ℕ → Tm s → Tm s → Bool
 equal_under ps D k (Var x) u = is_var (cond (ltb x k) x (renaming ps D (x - k) + k)) u

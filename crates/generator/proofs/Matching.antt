@@ -17,7 +17,7 @@ use Rattle.documents.specs.Terms.{Var, Sym, Meta, Abst, Nil, Cons, Term, Terms, 
 use Rattle.documents.specs.Tables.{nodes}
 use Rattle.documents.specs.Rules.{are_vars, freevars}
 use Rattle.documents.specs.Instructions.{End, ◌▸◌, Program, words, pair_words}
-use Rattle.documents.specs.Translation.{Row, row, Located, lookup, unvar, ◌⧺◌, bvset, lhs_meta, sets_less, sets_after, lhs}
+use Rattle.documents.specs.Translation.{Row, Located, lookup, unvar, ◌⧺◌, bvset, lhs_meta, sets_less, sets_after, lhs}
 use Rattle.documents.proofs.Translation.{⧺-assoc}
 use Rattle.documents.proofs.Lists.{never}
 use Rattle.kahrs.proofs.Simple.{len_vars, unvar_vars, Simple}

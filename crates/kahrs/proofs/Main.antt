@@ -10,7 +10,7 @@ use lib.Dec.{T}
 use lib.ListN.{length}
 use Rattle.documents.specs.Terms.{Term, absts}
 use Rattle.documents.specs.Tables.{depth}
-use Rattle.documents.specs.Rules.{Val, Valuation, metas, among, simple, closed, crs_rule, metasubst}
+use Rattle.documents.specs.Rules.{Val, Valuation, metas, among, crs_rule, metasubst}
 use Rattle.documents.specs.Instructions.{Program}
 use Rattle.documents.specs.Machine.{Entry, State, state, Outcome, done, fails, ◌>>=◌, exec, start, run}
 use Rattle.documents.specs.Translation.{Row, Located, lookup, symbol_table, lhs, rhs, compile}

@@ -22,7 +22,7 @@ use Rattle.rewriting.proofs.Ancestors.{ancestors, ancestors_depth}
 use Rattle.rewriting.proofs.Searching.{Searched, search_jumps}
 use Rattle.levels.specs.Levels.{Level, level, levels_of, word_of, stacked, Above}
 use Rattle.levels.proofs.Next.{levels_root}
-use Rattle.levels.proofs.Spines.{Low, node_of, again, levels_low, levels_numbers, levels_back, levels_stay}
+use Rattle.levels.proofs.Spines.{Low, node_of, levels_low, levels_numbers, levels_back, levels_stay}
 use Rattle.levels.proofs.Rising.{ancestors_rise, rising_bounds, rising_before, member_at}
 use Rattle.levels.proofs.Stacks.{length_stacked, again_levels, numbers_are, After, after_word}
 

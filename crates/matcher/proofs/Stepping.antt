@@ -18,7 +18,6 @@ use Rattle.documents.specs.Passing.{Slot, Matching, matching, times, match_step,
 use Rattle.documents.proofs.Lists.{T_of}
 use Rattle.documents.proofs.Nodes.{numbered_step}
 use Rattle.tables.specs.Parts.{front, terms, Begins, word_count}
-use Rattle.tables.specs.Compared.{agrees}
 use Rattle.tables.proofs.Parts.{join, only, Step, passed, begins_less}
 use Rattle.tables.proofs.Walks.{Walking}
 use Rattle.instructions.specs.Places.{program_at, read_at}

@@ -11,7 +11,7 @@ use lib.ListN.{length, get_or, drop, set, length-drop, length-take}
 use lib.Seq.{sets, drop-cons, get_or-drop}
 use borrow.Author.Tests.{le-leb, lt-leb}
 use Rattle.documents.specs.Calls.{big_endian, words_of}
-use Rattle.reader.specs.Reader.{word_at, count_in, words_from, filled, turned_word_lem}
+use Rattle.reader.specs.Reader.{word_at, count_in, words_from, filled, turned_word}
 use Rattle.reader.specs.declared.Count.TheVariants as count
 
 -- ---- A word
@@ -22,14 +22,14 @@ last_byte q a h = omega arith
 other_bytes : (q a : ℕ) → a < 256 → (q * 256 + a) / 256 ≡ q
 other_bytes q a h = omega arith
 
-turned_word : (a b c d : ℕ) → a < 256 → b < 256 → c < 256 → turned_word_lem (big_endian d c b a) ≡ big_endian a b c d
-turned_word a b c d p q r =
+turned_word_lem : (a b c d : ℕ) → a < 256 → b < 256 → c < 256 → turned_word (big_endian d c b a) ≡ big_endian a b c d
+turned_word_lem a b c d p q r =
     rw (last_byte ((d * 256 + c) * 256 + b) a p, other_bytes ((d * 256 + c) * 256 + b) a p, last_byte (d * 256 + c) b q, other_bytes (d * 256 + c) b q, last_byte d c r, other_bytes d c r)
 
 pub turned_word_at : (bs : List ℕ) (at : ℕ) → ((i : ℕ) → get_or bs i 0 < 256)
-    → turned_word_lem (big_endian (get_or bs (at + 3) 0) (get_or bs (at + 2) 0) (get_or bs (at + 1) 0) (get_or bs at 0)) ≡ word_at bs at
+    → turned_word (big_endian (get_or bs (at + 3) 0) (get_or bs (at + 2) 0) (get_or bs (at + 1) 0) (get_or bs at 0)) ≡ word_at bs at
 unfolding word_at
-turned_word_at bs at byte = turned_word (get_or bs at 0) (get_or bs (at + 1) 0) (get_or bs (at + 2) 0) (get_or bs (at + 3) 0) (byte at) (byte (at + 1)) (byte (at + 2))
+turned_word_at bs at byte = turned_word_lem (get_or bs at 0) (get_or bs (at + 1) 0) (get_or bs (at + 2) 0) (get_or bs (at + 3) 0) (byte at) (byte (at + 1)) (byte (at + 2))
 
 word_at_drop : (bs : List ℕ) (at k : ℕ) → word_at (drop at bs) k ≡ word_at bs (at + k)
 unfolding word_at

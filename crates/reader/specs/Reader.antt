@@ -42,5 +42,5 @@ abbrev pub filled : List ℕ → ℕ → ℕ → List ℕ → ℕ → List ℕ
 filled bs at n table i = sets table i (words_from bs (at + 4 * i) (n - i))
 
 -- a word's four bytes in the other order
-abbrev pub turned_word_lem : ℕ → ℕ
-turned_word_lem x = big_endian (x % 256) (x / 256 % 256) (x / 256 / 256 % 256) (x / 256 / 256 / 256)
+abbrev pub turned_word : ℕ → ℕ
+turned_word x = big_endian (x % 256) (x / 256 % 256) (x / 256 / 256 % 256) (x / 256 / 256 / 256)

@@ -4,7 +4,7 @@
 ghost use Rattle.std.specs.Prelude.{◌≡◌, ◌+◌, ◌-◌, ◌*◌, ◌%◌, ◌^◌, ◌≤◌, ◌<◌, length, drop};
 ghost use Rattle.std.proofs.lemmas.List.Edits.{sets};
 ghost use Rattle.documents.specs.Calls.{big_endian, at_front, file_in, read_call};
-ghost use Rattle.reader.specs.Reader.{given, counts_of, count_in, words_from, filled, word_at, turned_word_lem};
+ghost use Rattle.reader.specs.Reader.{given, counts_of, count_in, words_from, filled, word_at, turned_word};
 
 use documents::Refusal;
 
@@ -124,7 +124,7 @@ fn together(a: u8, b: u8, c: u8, d: u8) -> u32
 
 // A word's four bytes in the other order.
 fn turned(x: u32) -> u32
-    ensures { result ≡ turned_word_lem x }
+    ensures { result ≡ turned_word x }
 {
     ((x % BYTE * BYTE + x / BYTE % BYTE) * BYTE + x / BYTE / BYTE % BYTE) * BYTE
         + x / BYTE / BYTE / BYTE

@@ -4,7 +4,7 @@ use Prim.Native.Nat.{ℕ, suc, ◌+◌, ◌*◌, ◌/◌, ◌≤◌, ◌<◌, mi
 use native.Mathlib.Omega.{arith}
 use mathlib.Core.Bool.{true}
 use mathlib.Core.List.{List, [], ◌∷◌, ◌++◌}
-use lib.Dec.{leb, leb-suc-suc}
+use lib.Dec.{leb-suc-suc}
 use lib.ListN.{length, drop}
 use lib.Seq.{sets-eq}
 use borrow.Author.Tests.{le-leb, lt-leb}
@@ -12,7 +12,6 @@ use Rattle.documents.specs.declared.Refusal.{Refusal}
 use Rattle.documents.specs.declared.Refusal.TheVariants.{DoesNotPass, MatchFails, WorkingTableShort}
 use Rattle.documents.specs.Terms.{Term}
 use Rattle.documents.specs.Tables.{table_of, nodes, depth}
-use Rattle.documents.specs.Instructions.{Program}
 use Rattle.documents.specs.Machine.{Entry, state, done, fails, run, finished}
 use Rattle.documents.specs.Passing.{passes}
 use Rattle.documents.specs.Numbers.{Answer, answered, refused, or_refuse, with, subject_in, code_in, outcome_of, result_for}

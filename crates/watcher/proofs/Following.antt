@@ -15,7 +15,7 @@ use Rattle.documents.specs.Limits.{code_limit}
 use Rattle.documents.specs.Terms.{Cons, Term, Terms}
 use Rattle.documents.specs.Tables.{nodes}
 use Rattle.documents.specs.Instructions.{◌▸◌, Instruction, Program, program_in}
-use Rattle.documents.specs.Machine.{current, State, done, fails, exec, run, first}
+use Rattle.documents.specs.Machine.{State, done, fails, exec, run, first}
 use Rattle.documents.specs.Passing.{and_then_holds, obeys, passes}
 use Rattle.documents.specs.Numbers.{Answer, answered, refused, with, subject_in, code_in, outcome_of}
 use Rattle.documents.specs.Calls.{node_of, counts, watches}

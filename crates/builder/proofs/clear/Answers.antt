@@ -1,7 +1,5 @@
-use Prim.Native.Nat.{◌-◌}
 use native.Mathlib.Omega.{arith}
-use lib.ListN.{length}
-use Rattle.builder.proofs.Cleared.{Clearing, clearing_from, clearing_on, clearing_done}
+use Rattle.builder.proofs.Cleared.{clearing_from, clearing_on, clearing_done}
 use borrow.Author.Rules.{rules}
 use Rattle.builder.proofs.clear.Goals as goal
 

@@ -1,9 +1,7 @@
 -- `builder::clear`: zeros so far, and the rest as it was.
 use Prim.Native.Nat.{◌-◌}
-use native.Mathlib.Omega.{arith}
 use lib.ListN.{length}
-use Rattle.builder.proofs.Cleared.{Clearing, clearing_from, clearing_on, clearing_done}
-use borrow.Author.Rules.{rules}
+use Rattle.builder.proofs.Cleared.{Clearing}
 use Rattle.builder.proofs.clear.Given as goal
 
 abbrev pub invariant-loop-at : goal.invariant-loop-at

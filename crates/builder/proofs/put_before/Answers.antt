@@ -1,7 +1,6 @@
 use lib.ListN.{replicate}
 use mathlib.Core.Path.{refl}
 use Rattle.builder.proofs.Weighing.{may_write, written}
-use borrow.Author.Rules.{rules}
 use Rattle.builder.proofs.put_before.Goals as goal
 
 pub write-requires : goal.write-requires

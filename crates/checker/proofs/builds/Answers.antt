@@ -1,7 +1,5 @@
 -- `checker::builds`: with a term still current nothing passes; else the build part decides, with no block around.
-use Rattle.checker.proofs.Ending.{key_not_done}
 use Rattle.checker.proofs.Matching.{builds_many, builds_not, builds_done}
-use borrow.Author.Rules.{rules}
 use Rattle.checker.proofs.builds.Goals as goal
 
 pub returns-then-terms-ne0 : goal.returns-then-terms-ne0

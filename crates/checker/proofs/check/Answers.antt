@@ -1,7 +1,6 @@
 -- `checker::check`: more than 4,096 words do not pass; of the others `obeys` has decided.
 use native.Mathlib.Omega.{arith}
 use Rattle.checker.proofs.Matching.{passes_long, passes_is}
-use borrow.Author.Rules.{rules}
 use Rattle.checker.proofs.check.Goals as goal
 
 pub returns-then-code-gt-MOST_WORDS : goal.returns-then-code-gt-MOST_WORDS

@@ -1,9 +1,8 @@
 use mathlib.Core.Path.{refl}
 use Prim.Native.Nat.{◌+◌, ◌-◌}
 use native.Mathlib.Omega.{arith}
-use lib.ListN.{length}
 use Rattle.checker.proofs.Current.{put_replaced}
-use Rattle.checker.proofs.Matching.{Matched, matched_from, matched_ended, matched_builds, matched_bare, top_low, matched_refused, ranged, listing, matched_next, room, matched_set}
+use Rattle.checker.proofs.Matching.{matched_from, matched_ended, matched_builds, matched_bare, top_low, matched_refused, ranged, listing, matched_next, room, matched_set}
 use borrow.Author.Rules.{rules}
 use Rattle.checker.proofs.obeys.Goals as goal
 

@@ -1,12 +1,8 @@
 -- `checker::obeys`: the arrays hold 01's state, each guard as its set, and whether code passes from there on is whether it passes. Each turn keeps
 -- that by the law of the turn; SET alone writes an entry.
-use mathlib.Core.Path.{refl}
-use Prim.Native.Nat.{◌+◌, ◌-◌}
-use native.Mathlib.Omega.{arith}
+use Prim.Native.Nat.{◌-◌}
 use lib.ListN.{length}
-use Rattle.checker.proofs.Current.{put_replaced}
-use Rattle.checker.proofs.Matching.{Matched, matched_from, matched_ended, matched_builds, matched_bare, top_low, matched_refused, ranged, listing, matched_next, room, matched_set}
-use borrow.Author.Rules.{rules}
+use Rattle.checker.proofs.Matching.{Matched}
 use Rattle.checker.proofs.obeys.Given as goal
 
 abbrev pub invariant-loop-at : goal.invariant-loop-at

@@ -1,9 +1,7 @@
-use mathlib.Core.Path.{◌≡◌, refl, ◌∙◌}
-use Prim.Native.Nat.{◌-◌, ◌≤◌}
+use mathlib.Core.Path.{refl, ◌∙◌}
 use native.Mathlib.Omega.{arith}
-use lib.ListN.{length, take, replicate, length-set}
+use lib.ListN.{length, length-set}
 use Rattle.checker.proofs.Current.{put_next, put_all}
-use borrow.Author.Rules.{rules}
 use Rattle.checker.proofs.put.Goals as goal
 
 pub loop-i-init : goal.loop-i-init

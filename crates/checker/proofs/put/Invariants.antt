@@ -1,10 +1,7 @@
 -- `checker::put`: the first i are written.
-use mathlib.Core.Path.{◌≡◌, refl, ◌∙◌}
+use mathlib.Core.Path.{◌≡◌}
 use Prim.Native.Nat.{◌-◌, ◌≤◌}
-use native.Mathlib.Omega.{arith}
-use lib.ListN.{length, take, replicate, length-set}
-use Rattle.checker.proofs.Current.{put_next, put_all}
-use borrow.Author.Rules.{rules}
+use lib.ListN.{length, take, replicate}
 use Rattle.checker.proofs.put.Given as goal
 
 abbrev pub invariant-loop-i : goal.invariant-loop-i

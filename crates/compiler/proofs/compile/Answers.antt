@@ -1,7 +1,6 @@
 -- `compile` meets document 01's call: a refusal of the sides is the call's, and what follows meets the call itself.
 use mathlib.Core.Path.{sym, ◌∙◌}
 use Rattle.compiler.proofs.Called.{sides_accepted, call_refused}
-use borrow.Author.Rules.{rules}
 use Rattle.compiler.proofs.compile.Goals as goal
 
 pub translate-requires : goal.translate-requires

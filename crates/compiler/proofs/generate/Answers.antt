@@ -1,6 +1,5 @@
 -- `generate` meets its contract: the left side's words and, behind them, the right side's are those of 004's `compile`.
 use Rattle.compiler.proofs.Generated.{left_asked, right_asked, generated}
-use borrow.Author.Rules.{rules}
 use Rattle.compiler.proofs.generate.Goals as goal
 
 pub left_side-matched-requires : goal.left_side-matched-requires

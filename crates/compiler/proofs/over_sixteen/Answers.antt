@@ -1,6 +1,5 @@
 -- `over_sixteen` meets its contract: what is left of 8 is 9.
 use mathlib.Core.Path.{sym, ◌∙◌}
-use borrow.Author.Tests.{not-true, not-false}
 use Rattle.compiler.proofs.Called.{left_short, right_short}
 use Rattle.compiler.proofs.over_sixteen.Goals as goal
 

@@ -3,7 +3,6 @@
 use mathlib.Core.Path.{refl, sym, ◌∙◌}
 use native.Mathlib.Omega.{arith}
 use lib.ListN.{replicate}
-use borrow.Author.Tests.{not-true, not-false}
 use Rattle.documents.specs.Rules.{metas}
 use Rattle.tables.specs.Parts.{front}
 use Rattle.symbols.proofs.Whole.{table_without_rows, table_made, table_full}

@@ -1,6 +1,5 @@
 -- `dispatch::admit`: a bucket that is asked for has one set; where any may be, each set gets the rule.
 use Rattle.dispatch.proofs.Entering.{all_admitted, one_admitted}
-use borrow.Author.Rules.{rules}
 use Rattle.dispatch.proofs.admit.Goals as goal
 
 pub returns-then-asked-eq-ANYTHING : goal.returns-then-asked-eq-ANYTHING

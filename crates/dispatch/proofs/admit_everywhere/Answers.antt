@@ -1,6 +1,4 @@
-use Prim.Native.Nat.{◌-◌}
-use Rattle.dispatch.proofs.Entering.{Entering, entering_from, entering_next, entering_all}
-use borrow.Author.Rules.{rules}
+use Rattle.dispatch.proofs.Entering.{entering_from, entering_next, entering_all}
 use Rattle.dispatch.proofs.admit_everywhere.Goals as goal
 
 pub loop-i-init : goal.loop-i-init

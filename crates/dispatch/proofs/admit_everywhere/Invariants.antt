@@ -1,7 +1,6 @@
 -- `dispatch::admit_everywhere`: the sets before a place have the rule, and with it in those behind they are all that were to have it.
 use Prim.Native.Nat.{◌-◌}
-use Rattle.dispatch.proofs.Entering.{Entering, entering_from, entering_next, entering_all}
-use borrow.Author.Rules.{rules}
+use Rattle.dispatch.proofs.Entering.{Entering}
 use Rattle.dispatch.proofs.admit_everywhere.Given as goal
 
 abbrev pub invariant-loop-i : goal.invariant-loop-i

@@ -2,7 +2,6 @@
 use mathlib.Core.Path.{sym}
 use native.Mathlib.Omega.{arith}
 use Rattle.dispatch.proofs.Asking.{asked_is, asked_isabst, asked_else}
-use borrow.Author.Rules.{rules}
 use Rattle.dispatch.proofs.asked.Goals as goal
 
 pub bounds-code-at-then-code-at-eq-IS : goal.bounds-code-at-then-code-at-eq-IS

@@ -2,7 +2,6 @@
 use mathlib.Core.Path.{sym}
 use native.Mathlib.Omega.{arith}
 use Rattle.dispatch.proofs.Asking.{behind_first, behind_none}
-use borrow.Author.Rules.{rules}
 use Rattle.dispatch.proofs.asked_behind.Goals as goal
 
 pub returns-then-code-ne-IS : goal.returns-then-code-ne-IS

@@ -2,7 +2,6 @@
 use mathlib.Core.Path.{sym}
 use native.Mathlib.Omega.{arith}
 use Rattle.dispatch.proofs.Asking.{bucket_variable, bucket_abstraction, bucket_symbol}
-use borrow.Author.Rules.{rules}
 use Rattle.dispatch.proofs.bucket.Goals as goal
 
 pub returns-then-word-lt-FIRST_SYMBOL : goal.returns-then-word-lt-FIRST_SYMBOL

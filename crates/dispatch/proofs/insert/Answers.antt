@@ -1,6 +1,5 @@
 -- `dispatch::insert`: 1 shifted by at most 31 is that power of two.
 use Rattle.dispatch.proofs.Sifting.{insert_is}
-use borrow.Author.Rules.{rules}
 use Rattle.dispatch.proofs.insert.Goals as goal
 
 pub returns : goal.returns

@@ -1,7 +1,4 @@
-use Prim.Native.Nat.{◌-◌}
-use lib.ListN.{length}
-use Rattle.dispatch.proofs.Sifting.{Sorting, sorting_none, sorting_more, sorting_all, code_inside, code_readable}
-use borrow.Author.Rules.{rules}
+use Rattle.dispatch.proofs.Sifting.{sorting_none, sorting_more, sorting_all, code_inside, code_readable}
 use Rattle.dispatch.proofs.sort.Goals as goal
 
 pub loop-i-init : goal.loop-i-init

@@ -1,8 +1,7 @@
 -- `dispatch::sort`: the rules so far are in the sets of what they ask for, and no other rule is in any. A rule that is in no set of a node fails there.
 use Prim.Native.Nat.{◌-◌}
 use lib.ListN.{length}
-use Rattle.dispatch.proofs.Sifting.{Sorting, sorting_none, sorting_more, sorting_all, code_inside, code_readable}
-use borrow.Author.Rules.{rules}
+use Rattle.dispatch.proofs.Sifting.{Sorting}
 use Rattle.dispatch.proofs.sort.Given as goal
 
 abbrev pub invariant-loop-i : goal.invariant-loop-i

@@ -1,11 +1,6 @@
-use mathlib.Core.Path.{◌≡◌, sym, ◌∙◌}
-use Prim.Native.Nat.{◌-◌, ◌≤◌}
+use mathlib.Core.Path.{sym, ◌∙◌}
 use native.Mathlib.Omega.{arith}
-use lib.ListN.{length, drop}
-use Rattle.documents.specs.Instructions.{pairs_in}
-use Rattle.indices.specs.Sets.{firsts_in}
 use Rattle.indices.proofs.Gathering.{first_high, second_high, pair_next, pairs_all}
-use borrow.Author.Rules.{rules}
 use Rattle.indices.proofs.firsts.Goals as goal
 
 pub returns-then-b-first : goal.returns-then-b-first

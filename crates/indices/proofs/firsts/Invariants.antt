@@ -1,12 +1,9 @@
 -- `indices::firsts`: the pairs that are left, with the set so far, come to what all pairs come to. A pair that is too high ends it.
-use mathlib.Core.Path.{◌≡◌, sym, ◌∙◌}
+use mathlib.Core.Path.{◌≡◌}
 use Prim.Native.Nat.{◌-◌, ◌≤◌}
-use native.Mathlib.Omega.{arith}
 use lib.ListN.{length, drop}
 use Rattle.documents.specs.Instructions.{pairs_in}
 use Rattle.indices.specs.Sets.{firsts_in}
-use Rattle.indices.proofs.Gathering.{first_high, second_high, pair_next, pairs_all}
-use borrow.Author.Rules.{rules}
 use Rattle.indices.proofs.firsts.Given as goal
 
 abbrev pub invariant-loop-i : goal.invariant-loop-i

@@ -1,12 +1,6 @@
-use mathlib.Core.Path.{◌≡◌, refl, sym, ◌∙◌}
-use Prim.Native.Nat.{◌-◌, ◌≤◌}
+use mathlib.Core.Path.{refl, sym, ◌∙◌}
 use native.Mathlib.Omega.{arith}
-use mathlib.Core.Bool.{true}
-use lib.ListN.{length, drop}
-use Rattle.documents.specs.Passing.{all_below}
-use Rattle.indices.specs.Sets.{gathered}
 use Rattle.indices.proofs.Gathering.{gathered_next, gathered_all, small_next}
-use borrow.Author.Rules.{rules}
 use Rattle.indices.proofs.gather.Goals as goal
 
 pub loop-i-init : goal.loop-i-init

@@ -1,13 +1,10 @@
 -- `indices::gather`: what is left, from the set so far, makes what the whole list makes.
-use mathlib.Core.Path.{◌≡◌, refl, sym, ◌∙◌}
+use mathlib.Core.Path.{◌≡◌}
 use Prim.Native.Nat.{◌-◌, ◌≤◌}
-use native.Mathlib.Omega.{arith}
 use mathlib.Core.Bool.{true}
 use lib.ListN.{length, drop}
 use Rattle.documents.specs.Passing.{all_below}
 use Rattle.indices.specs.Sets.{gathered}
-use Rattle.indices.proofs.Gathering.{gathered_next, gathered_all, small_next}
-use borrow.Author.Rules.{rules}
 use Rattle.indices.proofs.gather.Given as goal
 
 abbrev pub invariant-loop-i : goal.invariant-loop-i

@@ -1,7 +1,6 @@
 -- `instructions::fetch` gives the place behind the fixed words. The opcode is at most 13 where the table is asked, so the count is 01's.
 use native.Mathlib.Omega.{arith}
 use Rattle.instructions.proofs.Reading.{fetched_high, fetched_short, fetched_there}
-use borrow.Author.Rules.{rules}
 use Rattle.instructions.proofs.fetch.Goals as goal
 
 pub returns-then-op-gt-PUSHI : goal.returns-then-op-gt-PUSHI

@@ -1,7 +1,5 @@
 use mathlib.Core.Path.{sym, ◌∙◌}
-use Prim.Native.Nat.{ℕ, ◌-◌, ◌<◌}
 use Rattle.keys.proofs.Among.{first_count, parted_missing, parted_behind}
-use borrow.Author.Rules.{rules}
 use Rattle.keys.proofs.+all_among.Goals as goal
 
 pub slice_bounds-all_among-end-2 : goal.slice_bounds-all_among-end-2

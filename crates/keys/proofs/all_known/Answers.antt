@@ -1,7 +1,6 @@
 -- `all_known` meets its contract: a metavariable is known by its key.
 use mathlib.Core.Path.{◌∙◌}
 use Rattle.keys.proofs.Keying.{key_count, known_by_keys}
-use borrow.Author.Rules.{rules}
 use Rattle.keys.proofs.all_known.Goals as goal
 
 pub slice_bounds-all_among-end : goal.slice_bounds-all_among-end

@@ -1,9 +1,5 @@
 use mathlib.Core.Path.{sym, ◌∙◌}
-use Prim.Native.Nat.{◌-◌}
-use lib.ListN.{length}
-use borrow.Author.Tests.{not-true, not-false}
-use Rattle.keys.proofs.Among.{Asking, asking_from, asking_missing, asking_on, asking_ended}
-use borrow.Author.Rules.{rules}
+use Rattle.keys.proofs.Among.{asking_from, asking_missing, asking_on, asking_ended}
 use Rattle.keys.proofs.each_among.Goals as goal
 
 pub loop-at-init : goal.loop-at-init

@@ -1,10 +1,7 @@
 -- `each_among` meets its contract: whether the keys still to be asked for are on the left is what was asked of all.
-use mathlib.Core.Path.{sym, ◌∙◌}
 use Prim.Native.Nat.{◌-◌}
 use lib.ListN.{length}
-use borrow.Author.Tests.{not-true, not-false}
-use Rattle.keys.proofs.Among.{Asking, asking_from, asking_missing, asking_on, asking_ended}
-use borrow.Author.Rules.{rules}
+use Rattle.keys.proofs.Among.{Asking}
 use Rattle.keys.proofs.each_among.Given as goal
 
 abbrev pub invariant-loop-at : goal.invariant-loop-at

@@ -1,7 +1,4 @@
-use Prim.Native.Nat.{◌-◌}
-use lib.ListN.{length}
-use Rattle.keys.proofs.Among.{Looking, looking_from, looking_found, looking_on, looking_ended}
-use borrow.Author.Rules.{rules}
+use Rattle.keys.proofs.Among.{looking_from, looking_found, looking_on, looking_ended}
 use Rattle.keys.proofs.is_among.Goals as goal
 
 pub loop-at-init : goal.loop-at-init

@@ -1,8 +1,7 @@
 -- `is_among` meets its contract: whether the key is among those still to be looked at is what was asked of all.
 use Prim.Native.Nat.{◌-◌}
 use lib.ListN.{length}
-use Rattle.keys.proofs.Among.{Looking, looking_from, looking_found, looking_on, looking_ended}
-use borrow.Author.Rules.{rules}
+use Rattle.keys.proofs.Among.{Looking}
 use Rattle.keys.proofs.is_among.Given as goal
 
 abbrev pub invariant-loop-at : goal.invariant-loop-at

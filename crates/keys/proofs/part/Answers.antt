@@ -1,8 +1,6 @@
-use Prim.Native.Nat.{◌-◌}
 use native.Mathlib.Omega.{arith}
 use lib.Seq.{lt-length-set}
-use Rattle.keys.proofs.Parting.{Parting, parting_from, parting_low, parting_high, parting_ended}
-use borrow.Author.Rules.{rules}
+use Rattle.keys.proofs.Parting.{parting_from, parting_low, parting_high, parting_ended}
 use Rattle.keys.proofs.part.Goals as goal
 
 pub loop-low-init : goal.loop-low-init

@@ -1,9 +1,6 @@
 -- `part` meets its contract: the keys gone over stand at the two ends, and none has come or gone.
 use Prim.Native.Nat.{◌-◌}
-use native.Mathlib.Omega.{arith}
-use lib.Seq.{lt-length-set}
-use Rattle.keys.proofs.Parting.{Parting, parting_from, parting_low, parting_high, parting_ended}
-use borrow.Author.Rules.{rules}
+use Rattle.keys.proofs.Parting.{Parting}
 use Rattle.keys.proofs.part.Given as goal
 
 abbrev pub invariant-loop-low : goal.invariant-loop-low

@@ -1,9 +1,7 @@
-use Prim.Native.Nat.{◌-◌}
 use native.Mathlib.Omega.{arith}
-use lib.ListN.{length}
 use Rattle.tables.proofs.Fronts.{last_word}
 use Rattle.tables.proofs.Walks.{walk_on}
-use Rattle.keys.proofs.Keying.{Keying, keying_from, keying_room, keying_on, keying_key, keying_ended}
+use Rattle.keys.proofs.Keying.{keying_from, keying_room, keying_on, keying_key, keying_ended}
 use borrow.Author.Rules.{rules}
 use Rattle.keys.proofs.put_keys.Goals as goal
 

@@ -1,9 +1,5 @@
-use Prim.Native.Nat.{◌≤◌, ◌<◌, ◌-◌}
 use native.Mathlib.Omega.{arith}
 use borrow.Author.Rules.{rules}
-use Rattle.documents.specs.Tables.{nodes}
-use Rattle.tables.specs.Parts.{front}
-use Rattle.levels.specs.Levels.{Above}
 use Rattle.levels.proofs.Going.{above_bounds, turned_owes, above_next, arrived}
 use Rattle.levels.proofs.go.Goals as goal
 

@@ -1,11 +1,8 @@
 -- `go` meets its contract: at every turn the array stands above the node, and a turn goes on to the next one (`above_next`). What is left to go falls.
 use Prim.Native.Nat.{◌≤◌, ◌<◌, ◌-◌}
-use native.Mathlib.Omega.{arith}
-use borrow.Author.Rules.{rules}
 use Rattle.documents.specs.Tables.{nodes}
 use Rattle.tables.specs.Parts.{front}
 use Rattle.levels.specs.Levels.{Above}
-use Rattle.levels.proofs.Going.{above_bounds, turned_owes, above_next, arrived}
 use Rattle.levels.proofs.go.Given as goal
 
 abbrev pub invariant-loop-node : goal.invariant-loop-node

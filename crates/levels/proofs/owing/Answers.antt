@@ -1,7 +1,6 @@
-use mathlib.Core.Path.{◌≡◌, refl, ◌∙◌}
+use mathlib.Core.Path.{refl, ◌∙◌}
 use native.Mathlib.Omega.{arith}
 use borrow.Author.Rules.{rules}
-use Rattle.levels.specs.Owing.{owing_from, Owes}
 use Rattle.levels.proofs.Stacks.{owes_some, owing_falls, owes_falls, owing_stays}
 use Rattle.levels.proofs.owing.Goals as goal
 

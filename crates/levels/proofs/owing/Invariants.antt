@@ -1,9 +1,6 @@
 -- `owing` meets its contract: what is left without the words that owe nothing is the same at every turn, and there is always a word that owes something.
-use mathlib.Core.Path.{◌≡◌, refl, ◌∙◌}
-use native.Mathlib.Omega.{arith}
-use borrow.Author.Rules.{rules}
+use mathlib.Core.Path.{◌≡◌}
 use Rattle.levels.specs.Owing.{owing_from, Owes}
-use Rattle.levels.proofs.Stacks.{owes_some, owing_falls, owes_falls, owing_stays}
 use Rattle.levels.proofs.owing.Given as goal
 
 abbrev pub invariant-loop-here : goal.invariant-loop-here

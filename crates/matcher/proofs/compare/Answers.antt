@@ -1,6 +1,5 @@
 -- `matcher::compare`: the entry that is named is there, and both it and the top begin a part of the subject; then the laws of EQIMM and EQI.
 use native.Mathlib.Omega.{arith}
-use borrow.Author.Tests.{not-true, not-false}
 use Rattle.matcher.proofs.Opcodes.{entry_there, entry_place, operand_there, compare_begins, compare_room, old_part, old_room, eqimm_moves, eqimm_fails, eqi_end, eqi_moves, eqi_fails}
 use Rattle.matcher.proofs.Stepping.{bounds, reads_eqi}
 use borrow.Author.Rules.{rules}

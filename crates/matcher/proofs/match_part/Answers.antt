@@ -1,8 +1,6 @@
-use Prim.Native.Nat.{◌-◌}
 use native.Mathlib.Omega.{arith}
-use lib.ListN.{length}
 use Rattle.matcher.proofs.Opcodes.{top_low, enters}
-use Rattle.matcher.proofs.Whole.{Going, going_from, going_refused, going_later, going_inside, going_next, going_build}
+use Rattle.matcher.proofs.Whole.{going_from, going_refused, going_later, going_inside, going_next, going_build}
 use borrow.Author.Rules.{rules}
 use Rattle.matcher.proofs.match_part.Goals as goal
 

@@ -1,6 +1,5 @@
 -- `matcher::test`: CHECK and EQVAR by their laws, the others by what `compare` ensures.
 use native.Mathlib.Omega.{arith}
-use borrow.Author.Tests.{not-true, not-false}
 use Rattle.matcher.proofs.Opcodes.{check_end, check_begins, check_small, check_moves, check_fails, eqvar_moves, eqvar_other}
 use Rattle.matcher.proofs.Stepping.{bounds, reads_check, reads_eqvar}
 use borrow.Author.Rules.{rules}

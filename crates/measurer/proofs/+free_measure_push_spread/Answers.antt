@@ -4,18 +4,16 @@ use Rattle.measurer.proofs.Walked.{root_room, not_below, few_levels, next_words,
 use Rattle.trees.specs.Trees.{further}
 use Rattle.links.proofs.Keyed.{bodied_readable}
 use Rattle.measurer.proofs.Answering.{measures_of, measures_large, pushes_of, pushes_large, spreads_are, meets_too_large, small_reach, noted_small, end_answer, full_answer, plain_pre, growing_plain, push_answer, over_answer, growing_at, push_falls, next_pre}
-use mathlib.Core.Path.{◌≡◌, refl, sym, ap, ◌∙◌}
+use mathlib.Core.Path.{refl, sym, ap, ◌∙◌}
 use native.Mathlib.Omega.{arith}
-use Prim.Native.Nat.{◌+◌, ◌-◌, ◌*◌}
+use Prim.Native.Nat.{◌+◌}
 use lib.ListN.{length, get_or}
-use Rattle.measurer.specs.Linking.{place_next}
-use Rattle.measurer.specs.Measuring.{push_end}
-use Rattle.measurer.proofs.Growing.{Growing, growing_from, growing_lambda, pushable}
-use Rattle.measurer.proofs.Spreading.{Spanned, span_from, place_room, span_end}
+use Rattle.measurer.proofs.Growing.{growing_from, growing_lambda, pushable}
+use Rattle.measurer.proofs.Spreading.{span_from, place_room, span_end}
 use Rattle.measurer.proofs.Meeting.{meets_none, key_in, key_long, body_end_lem, body_low, body_sequence, noted, noted_root, meets_before, root_small, note_room, depth_room, meets_now}
 use Rattle.measurer.proofs.Pushing.{first_low, whole_spreading, whole_pushes, whole_large, bodies_pre, bodies_read, push_spreading, push_pushes, whole_falls, bodies_fall}
 use borrow.Author.Rules.{rules}
-use Prim.Native.Nat.{ℕ, ◌<◌}
+use Prim.Native.Nat.{ℕ}
 use Rattle.measurer.proofs.+free_measure_push_spread.Goals as goal
 
 pub free-overflow_add-push : goal.free-overflow_add-push

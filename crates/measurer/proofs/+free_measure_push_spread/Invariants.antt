@@ -1,23 +1,12 @@
 -- The measuring walk: a sequence (`Growing`), an instruction that pushes (`Pushing`), its entry (`Spreading`) and a variable of it (`Meeting`) call
 -- one another, the words of the code falling.
-use Rattle.links.specs.Standing.{entry_place}
-use Rattle.tables.proofs.Parts.{from_drop}
-use Rattle.measurer.proofs.Walked.{root_room, not_below, few_levels, next_words, free_here, large_here, meets_here, larger_here, met_on, pass_on, end_small}
-use Rattle.trees.specs.Trees.{further}
-use Rattle.links.proofs.Keyed.{bodied_readable}
-use Rattle.measurer.proofs.Answering.{measures_of, measures_large, pushes_of, pushes_large, spreads_are, meets_too_large, small_reach, noted_small, end_answer, full_answer, plain_pre, growing_plain, push_answer, over_answer, growing_at, push_falls, next_pre}
-use mathlib.Core.Path.{◌≡◌, refl, sym, ap, ◌∙◌}
-use native.Mathlib.Omega.{arith}
+use mathlib.Core.Path.{◌≡◌}
 use Prim.Native.Nat.{◌+◌, ◌-◌, ◌*◌}
 use lib.ListN.{length, get_or}
 use Rattle.measurer.specs.Linking.{place_next}
 use Rattle.measurer.specs.Measuring.{push_end}
-use Rattle.measurer.proofs.Growing.{Growing, growing_from, growing_lambda, pushable}
-use Rattle.measurer.proofs.Spreading.{Spanned, span_from, place_room, span_end}
-use Rattle.measurer.proofs.Meeting.{meets_none, key_in, key_long, body_end_lem, body_low, body_sequence, noted, noted_root, meets_before, root_small, note_room, depth_room, meets_now}
-use Rattle.measurer.proofs.Pushing.{first_low, whole_spreading, whole_pushes, whole_large, bodies_pre, bodies_read, push_spreading, push_pushes, whole_falls, bodies_fall}
-use borrow.Author.Rules.{rules}
-use Prim.Native.Nat.{ℕ, ◌<◌}
+use Rattle.measurer.proofs.Growing.{Growing}
+use Rattle.measurer.proofs.Spreading.{Spanned}
 use Rattle.measurer.proofs.+free_measure_push_spread.Given as goal
 
 abbrev pub decreases-free : goal.decreases-free

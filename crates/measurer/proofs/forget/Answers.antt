@@ -1,5 +1,5 @@
 use native.Mathlib.Omega.{arith}
-use Rattle.measurer.proofs.Linking.{Forgetting, forgetting_from, forgetting_in, forgetting_on, forgetting_end}
+use Rattle.measurer.proofs.Linking.{forgetting_from, forgetting_in, forgetting_on, forgetting_end}
 use borrow.Author.Rules.{rules}
 use Rattle.measurer.proofs.forget.Goals as goal
 

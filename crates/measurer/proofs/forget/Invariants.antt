@@ -1,7 +1,5 @@
 -- `measurer::forget`: the keys that were passed are cleared.
-use native.Mathlib.Omega.{arith}
-use Rattle.measurer.proofs.Linking.{Forgetting, forgetting_from, forgetting_in, forgetting_on, forgetting_end}
-use borrow.Author.Rules.{rules}
+use Rattle.measurer.proofs.Linking.{Forgetting}
 use Rattle.measurer.proofs.forget.Given as goal
 
 abbrev pub invariant-loop-left : goal.invariant-loop-left

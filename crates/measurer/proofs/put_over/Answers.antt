@@ -3,8 +3,7 @@ use lib.ListN.{set}
 use native.Mathlib.Omega.{arith}
 use mathlib.Core.Path.{ap}
 use Rattle.links.proofs.Links.{before_low}
-use Rattle.measurer.proofs.Linking.{Backing, backing_on, backing_end}
-use borrow.Author.Rules.{rules}
+use Rattle.measurer.proofs.Linking.{backing_on, backing_end}
 use Rattle.measurer.proofs.put_over.Goals as goal
 
 pub loop-left-preserved : goal.loop-left-preserved

@@ -1,6 +1,5 @@
 -- `measurer::shifted`: what reaches nothing does so under abstractions too.
 use Rattle.measurer.proofs.Linking.{further_some}
-use borrow.Author.Rules.{rules}
 use Rattle.measurer.proofs.shifted.Goals as goal
 
 pub returns : goal.returns

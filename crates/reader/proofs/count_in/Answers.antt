@@ -1,7 +1,6 @@
 -- `reader::count_in` gives the count at a place. Each return is a case of `count_in`: the three tests stand there in the same order.
 use mathlib.Core.Path.{sym}
 use Rattle.reader.proofs.Words.{count_in_short, count_in_over_limit, count_in_over_room, count_in_within}
-use borrow.Author.Rules.{rules}
 use Rattle.reader.proofs.count_in.Goals as goal
 
 pub returns-then-file-at : goal.returns-then-file-at

@@ -5,7 +5,6 @@ use native.Mathlib.Omega.{arith}
 use Rattle.documents.specs.Calls.{file_side_words}
 use Rattle.reader.specs.Reader.{counts_of}
 use Rattle.reader.proofs.Sections.{count_there, no_left, no_version, no_right, no_subject, no_end, at_end}
-use borrow.Author.Rules.{rules}
 use Rattle.reader.proofs.file_in.Goals as goal
 
 pub returns-in_default : goal.returns-in_default

@@ -1,8 +1,6 @@
-use mathlib.Core.Path.{◌≡◌, sym, ◌∙◌}
-use Prim.Native.Nat.{◌+◌, ◌-◌, ◌%◌, ◌≤◌}
+use mathlib.Core.Path.{sym, ◌∙◌}
+use Prim.Native.Nat.{◌+◌, ◌≤◌}
 use native.Mathlib.Omega.{arith}
-use lib.ListN.{length}
-use Rattle.reader.specs.Reader.{filled}
 use Rattle.reader.proofs.Words.{filled_block, filled_none}
 use borrow.Author.Rules.{rules}
 use Rattle.reader.proofs.put_blocks.Goals as goal

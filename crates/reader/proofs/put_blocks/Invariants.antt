@@ -1,12 +1,9 @@
 -- `reader::put_blocks` writes the words from one on. The invariant is that of `put_first`, and that whole blocks are left; one turn writes the
 -- first of them by its halves.
-use mathlib.Core.Path.{◌≡◌, sym, ◌∙◌}
-use Prim.Native.Nat.{◌+◌, ◌-◌, ◌%◌, ◌≤◌}
-use native.Mathlib.Omega.{arith}
+use mathlib.Core.Path.{◌≡◌}
+use Prim.Native.Nat.{◌-◌, ◌%◌, ◌≤◌}
 use lib.ListN.{length}
 use Rattle.reader.specs.Reader.{filled}
-use Rattle.reader.proofs.Words.{filled_block, filled_none}
-use borrow.Author.Rules.{rules}
 use Rattle.reader.proofs.put_blocks.Given as goal
 
 abbrev pub invariant-loop-i : goal.invariant-loop-i

@@ -1,7 +1,5 @@
-use mathlib.Core.Path.{◌≡◌, sym, ◌∙◌}
-use Prim.Native.Nat.{◌-◌, ◌≤◌}
-use lib.ListN.{length, length-set}
-use Rattle.reader.specs.Reader.{filled}
+use mathlib.Core.Path.{sym, ◌∙◌}
+use lib.ListN.{length-set}
 use Rattle.reader.proofs.Words.{filled_one, filled_none, filled_whole}
 use borrow.Author.Rules.{rules}
 use Rattle.reader.proofs.put_first.Goals as goal

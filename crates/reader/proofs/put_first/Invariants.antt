@@ -1,11 +1,9 @@
 -- `reader::put_first` writes the words from a place on. The invariant: writing what is left, from word i on, into the table as it is gives what
 -- writing all into the first table gives; one turn writes the first of the words that are left.
-use mathlib.Core.Path.{◌≡◌, sym, ◌∙◌}
+use mathlib.Core.Path.{◌≡◌}
 use Prim.Native.Nat.{◌-◌, ◌≤◌}
-use lib.ListN.{length, length-set}
+use lib.ListN.{length}
 use Rattle.reader.specs.Reader.{filled}
-use Rattle.reader.proofs.Words.{filled_one, filled_none, filled_whole}
-use borrow.Author.Rules.{rules}
 use Rattle.reader.proofs.put_first.Given as goal
 
 abbrev pub invariant-loop-i : goal.invariant-loop-i

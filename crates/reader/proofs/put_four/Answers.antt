@@ -2,7 +2,6 @@
 use native.Mathlib.Omega.{arith}
 use lib.ListN.{length-set}
 use Rattle.reader.proofs.Words.{sets_four}
-use borrow.Author.Rules.{rules}
 use Rattle.reader.proofs.put_four.Goals as goal
 
 pub bounds-table-i-2 : goal.bounds-table-i-2

@@ -2,7 +2,6 @@
 use Prim.Native.Nat.{◌%◌}
 use native.Mathlib.Omega.{arith}
 use Rattle.reader.proofs.Words.{filled_first}
-use borrow.Author.Rules.{rules}
 use Rattle.reader.proofs.put_words.Goals as goal
 
 pub returns : goal.returns

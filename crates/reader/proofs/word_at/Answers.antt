@@ -2,12 +2,11 @@
 -- they are again (a byte is below 256), and these digits in the other order are the word.
 use mathlib.Core.Path.{ap, ◌∙◌}
 use native.Mathlib.Omega.{arith}
-use Rattle.reader.specs.Reader.{turned_word_lem}
+use Rattle.reader.specs.Reader.{turned_word}
 use Rattle.reader.proofs.Words.{turned_word_at}
-use borrow.Author.Rules.{rules}
 use Rattle.reader.proofs.word_at.Goals as goal
 
 pub returns : goal.returns
 returns c =
     let s = c.args in
-    c.turned.ensures ∙ ap turned_word_lem c.together.ensures ∙ turned_word_at s.file.now s.at (λ i. omega (arith, c.shared_slice_known-5-1.given i))
+    c.turned.ensures ∙ ap turned_word c.together.ensures ∙ turned_word_at s.file.now s.at (λ i. omega (arith, c.shared_slice_known-5-1.given i))

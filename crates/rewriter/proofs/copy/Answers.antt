@@ -1,7 +1,3 @@
-use mathlib.Core.Path.{◌≡◌}
-use Prim.Native.Nat.{◌≤◌, ◌-◌}
-use mathlib.Core.List.{◌++◌}
-use lib.ListN.{length, take, drop}
 use Rattle.rewriter.proofs.Copied.{copied_more, copied_all}
 use borrow.Author.Rules.{rules}
 use Rattle.rewriter.proofs.copy.Goals as goal

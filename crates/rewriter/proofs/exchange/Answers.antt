@@ -1,6 +1,5 @@
 -- `rewriter::exchange`: what was weighed over the plan stands ready over the copy, and its words come between those before the redex and those behind it.
 use Rattle.rewriter.proofs.Exchanged.{may_put, exchanges}
-use borrow.Author.Rules.{rules}
 use Rattle.rewriter.proofs.exchange.Goals as goal
 
 pub put_in-requires : goal.put_in-requires

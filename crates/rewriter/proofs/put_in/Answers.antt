@@ -3,7 +3,6 @@ use lib.Seq.{length-take-le}
 use mathlib.Core.Path.{sym}
 use native.Mathlib.Omega.{arith}
 use Rattle.rewriter.proofs.Exchanged.{copy_lent}
-use borrow.Author.Rules.{rules}
 use Rattle.rewriter.proofs.put_in.Goals as goal
 
 pub slice_bounds-put_before-end-2 : goal.slice_bounds-put_before-end-2

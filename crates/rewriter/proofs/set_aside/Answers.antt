@@ -1,7 +1,6 @@
 -- `rewriter::set_aside`: one copy if the words behind the redex stay where they are; else two, there and back.
 use native.Mathlib.Omega.{arith}
 use Rattle.rewriter.proofs.Copied.{put_there, aside_alone, aside_moved}
-use borrow.Author.Rules.{rules}
 use Rattle.rewriter.proofs.set_aside.Goals as goal
 
 pub returns-then-end-next : goal.returns-then-end-next

@@ -1,6 +1,5 @@
 -- `rule_table::code_at`: the part behind the word count, as long as that says.
 use Rattle.rule_table.proofs.Placed.{code_part}
-use borrow.Author.Rules.{rules}
 use Rattle.rule_table.proofs.code_at.Goals as goal
 
 pub returns : goal.returns

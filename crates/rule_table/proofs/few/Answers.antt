@@ -1,8 +1,5 @@
-use Prim.Native.Nat.{◌-◌}
 use native.Mathlib.Omega.{arith}
-use lib.ListN.{length}
-use Rattle.rule_table.proofs.Counting.{Counted, counted_none, all_counted, counted_more, too_many, cut_counted}
-use borrow.Author.Rules.{rules}
+use Rattle.rule_table.proofs.Counting.{counted_none, all_counted, counted_more, too_many, cut_counted}
 use Rattle.rule_table.proofs.few.Goals as goal
 
 pub loop-at-init : goal.loop-at-init

@@ -1,10 +1,8 @@
 -- `rule_table::few`: the rules before a place and those behind it are all that are listed. The 33rd ends the count, and so does one that is cut
 -- short, which is the last.
 use Prim.Native.Nat.{◌-◌}
-use native.Mathlib.Omega.{arith}
 use lib.ListN.{length}
-use Rattle.rule_table.proofs.Counting.{Counted, counted_none, all_counted, counted_more, too_many, cut_counted}
-use borrow.Author.Rules.{rules}
+use Rattle.rule_table.proofs.Counting.{Counted}
 use Rattle.rule_table.proofs.few.Given as goal
 
 abbrev pub invariant-loop-at : goal.invariant-loop-at

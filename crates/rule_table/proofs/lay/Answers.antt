@@ -1,7 +1,5 @@
-use Prim.Native.Nat.{◌-◌}
 use native.Mathlib.Omega.{arith}
-use lib.ListN.{length}
-use Rattle.rule_table.proofs.Laying.{Laying, laying_none, laid_all, laid_room, laid_cut, laid_refused, laid_more, passes_told}
+use Rattle.rule_table.proofs.Laying.{laying_none, laid_all, laid_room, laid_cut, laid_refused, laid_more, passes_told}
 use borrow.Author.Rules.{rules}
 use Rattle.rule_table.proofs.lay.Goals as goal
 

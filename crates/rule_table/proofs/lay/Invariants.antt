@@ -1,10 +1,8 @@
 -- `rule_table::lay`: what is laid so far, and what the words behind it come to, is what the table comes to. A rule that is cut short or does not
 -- pass is the first bad one.
 use Prim.Native.Nat.{◌-◌}
-use native.Mathlib.Omega.{arith}
 use lib.ListN.{length}
-use Rattle.rule_table.proofs.Laying.{Laying, laying_none, laid_all, laid_room, laid_cut, laid_refused, laid_more, passes_told}
-use borrow.Author.Rules.{rules}
+use Rattle.rule_table.proofs.Laying.{Laying}
 use Rattle.rule_table.proofs.lay.Given as goal
 
 abbrev pub invariant-loop-at : goal.invariant-loop-at

@@ -4,7 +4,6 @@ use native.Mathlib.Omega.{arith}
 use Rattle.checker.proofs.Matching.{verdict_passes}
 use Rattle.runner.proofs.Answering.{run_short, run_unchecked, run_refused}
 use Rattle.runner.proofs.Applying.{begun_from, applied_before}
-use borrow.Author.Rules.{rules}
 use Rattle.runner.proofs.apply.Goals as goal
 
 pub returns-then-work-lt-WORKING_WORDS : goal.returns-then-work-lt-WORKING_WORDS

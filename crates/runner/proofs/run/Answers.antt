@@ -1,6 +1,5 @@
 -- `runner::run`: what `apply` says, and the working table cleared.
 use Rattle.runner.proofs.Applying.{applied_cleared}
-use borrow.Author.Rules.{rules}
 use Rattle.runner.proofs.run.Goals as goal
 
 pub returns : goal.returns

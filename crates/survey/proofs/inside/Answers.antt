@@ -1,6 +1,5 @@
 -- `inside` meets its contract: one test of the first word.
 use mathlib.Core.Path.{sym}
-use borrow.Author.Rules.{rules}
 use Rattle.survey.proofs.Surveying.{below_abstraction, below_other}
 use Rattle.survey.proofs.inside.Goals as goal
 

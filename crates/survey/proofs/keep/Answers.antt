@@ -1,7 +1,6 @@
 -- `keep` meets its contract: one test of the level.
 use mathlib.Core.Path.{sym}
 use native.Mathlib.Omega.{arith}
-use borrow.Author.Rules.{rules}
 use Rattle.survey.proofs.Surveying.{levels_few, levels_more}
 use Rattle.survey.proofs.keep.Goals as goal
 

@@ -1,10 +1,9 @@
-use mathlib.Core.Path.{◌≡◌, refl, sym, ◌∙◌}
-use Prim.Native.Nat.{◌-◌, ◌*◌, ◌%◌}
+use mathlib.Core.Path.{refl, sym, ◌∙◌}
+use Prim.Native.Nat.{◌*◌, ◌%◌}
 use native.Mathlib.Omega.{arith}
-use lib.ListN.{length, get_or, length-set}
+use lib.ListN.{get_or, length-set}
 use borrow.Author.Rules.{rules}
-use borrow.Author.Tests.{not-true, not-false}
-use Rattle.survey.proofs.Surveying.{Surveying, surveying_from, surveying_short, surveying_down, surveying_more, surveying_up, surveying_end, surveyed_refused, refused_leaf, refused_stays, goes_in_lem, below_most}
+use Rattle.survey.proofs.Surveying.{surveying_from, surveying_short, surveying_down, surveying_more, surveying_up, surveying_end, surveyed_refused, refused_leaf, refused_stays, goes_in_lem, below_most}
 use Rattle.survey.proofs.lay.Goals as goal
 
 pub loop-node-init : goal.loop-node-init

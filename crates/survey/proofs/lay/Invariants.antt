@@ -1,13 +1,10 @@
 -- `lay` meets its contract. The table is good if the words behind the node hold as many terms as are owed; and if it is, the places noted so far and
 -- those of the terms owed at each level are the subject's, and so are its depth and metavariables (`Surveying`). A node's arguments are owed one
 -- level further in, at the place that they have; a level that owes nothing is not kept. The words left fall.
-use mathlib.Core.Path.{◌≡◌, refl, sym, ◌∙◌}
-use Prim.Native.Nat.{◌-◌, ◌*◌, ◌%◌}
-use native.Mathlib.Omega.{arith}
-use lib.ListN.{length, get_or, length-set}
-use borrow.Author.Rules.{rules}
-use borrow.Author.Tests.{not-true, not-false}
-use Rattle.survey.proofs.Surveying.{Surveying, surveying_from, surveying_short, surveying_down, surveying_more, surveying_up, surveying_end, surveyed_refused, refused_leaf, refused_stays, goes_in_lem, below_most}
+use mathlib.Core.Path.{◌≡◌}
+use Prim.Native.Nat.{◌-◌, ◌*◌}
+use lib.ListN.{length}
+use Rattle.survey.proofs.Surveying.{Surveying}
 use Rattle.survey.proofs.lay.Given as goal
 
 abbrev pub invariant-loop-node : goal.invariant-loop-node

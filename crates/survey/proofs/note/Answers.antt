@@ -1,10 +1,8 @@
-use mathlib.Core.Path.{◌≡◌, refl}
-use Prim.Native.Nat.{◌-◌, ◌*◌, ◌%◌}
+use mathlib.Core.Path.{refl}
+use Prim.Native.Nat.{◌*◌, ◌%◌}
 use native.Mathlib.Omega.{arith}
-use lib.ListN.{length, get_or, length-set}
-use Rattle.documents.specs.Numbers.{answered, subject_in}
-use Rattle.tables.specs.Parts.{front}
-use Rattle.survey.proofs.Surveying.{Surveying, below_most}
+use lib.ListN.{get_or, length-set}
+use Rattle.survey.proofs.Surveying.{below_most}
 use Rattle.survey.proofs.Noting.{noting_from, noting_within, noting_into, noting_down, noting_more, noting_up, noting_end}
 use borrow.Author.Rules.{rules}
 use Rattle.survey.proofs.note.Goals as goal

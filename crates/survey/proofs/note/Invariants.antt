@@ -1,13 +1,10 @@
 -- `note` meets its contract: the walk of `lay`, which an accepted subject goes through to its end (`Noting`). The words left fall.
-use mathlib.Core.Path.{◌≡◌, refl}
-use Prim.Native.Nat.{◌-◌, ◌*◌, ◌%◌}
-use native.Mathlib.Omega.{arith}
-use lib.ListN.{length, get_or, length-set}
+use mathlib.Core.Path.{◌≡◌}
+use Prim.Native.Nat.{◌-◌, ◌*◌}
+use lib.ListN.{length}
 use Rattle.documents.specs.Numbers.{answered, subject_in}
 use Rattle.tables.specs.Parts.{front}
-use Rattle.survey.proofs.Surveying.{Surveying, below_most}
-use Rattle.survey.proofs.Noting.{noting_from, noting_within, noting_into, noting_down, noting_more, noting_up, noting_end}
-use borrow.Author.Rules.{rules}
+use Rattle.survey.proofs.Surveying.{Surveying}
 use Rattle.survey.proofs.note.Given as goal
 
 abbrev pub invariant-loop-node : goal.invariant-loop-node

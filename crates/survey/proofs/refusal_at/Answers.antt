@@ -1,7 +1,5 @@
 -- `refusal_at` meets its contract: its tests are those of `subject_in`, in the same order, and a subject that passes all but the last has a metavariable.
 use mathlib.Core.Path.{sym, ◌∙◌}
-use borrow.Author.Rules.{rules}
-use borrow.Author.Tests.{not-true, not-false}
 use Rattle.tables.proofs.Accepted.{good_begins}
 use Rattle.survey.proofs.Surveying.{refused_bad, refused_unfit, refused_deep}
 use Rattle.survey.proofs.refusal_at.Goals as goal

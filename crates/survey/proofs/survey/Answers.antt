@@ -1,6 +1,5 @@
 -- `survey` meets its contract: the length comes first, and the walk answers the rest.
 use native.Mathlib.Omega.{arith}
-use borrow.Author.Rules.{rules}
 use Rattle.survey.proofs.Surveying.{surveyed_long}
 use Rattle.survey.proofs.survey.Goals as goal
 

@@ -1,10 +1,8 @@
-use Prim.Native.Nat.{ℕ, ◌+◌, ◌-◌, ◌*◌, ◌<◌}
 use native.Mathlib.Omega.{arith}
-use lib.ListN.{length, drop, length-drop}
+use lib.ListN.{length-drop}
 use Rattle.tables.proofs.Parts.{from_drop}
-use Rattle.symbols.specs.Rows.{rows_in}
 use Rattle.tables.proofs.Fronts.{root_words, below_abstraction}
-use Rattle.symbols.proofs.Entering.{words_within, body_enterable, body_full, body_entered, Entering, entering_from, narrow_node, entering_plain, term_enterable, first_word, term_full, entering_term, entering_ended}
+use Rattle.symbols.proofs.Entering.{words_within, body_enterable, body_full, body_entered, entering_from, narrow_node, entering_plain, term_enterable, first_word, term_full, entering_term, entering_ended}
 use borrow.Author.Rules.{rules}
 use Rattle.symbols.proofs.+enter_all_enter_term.Goals as goal
 

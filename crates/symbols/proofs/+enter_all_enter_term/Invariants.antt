@@ -1,14 +1,10 @@
 -- `enter_all` and `enter_term` meet their contracts. In the loop, what the terms still owed make of the rows that are there is what the subterm makes of
 -- those at the start, and the words counted with theirs are the subterm's. A body is entered by a call, with one abstraction more above it. What falls is
 -- twice the part's length, and one more in `enter_all`, which may lend the whole part.
-use Prim.Native.Nat.{ℕ, ◌+◌, ◌-◌, ◌*◌, ◌<◌}
-use native.Mathlib.Omega.{arith}
-use lib.ListN.{length, drop, length-drop}
-use Rattle.tables.proofs.Parts.{from_drop}
+use Prim.Native.Nat.{◌+◌, ◌-◌, ◌*◌}
+use lib.ListN.{length, drop}
 use Rattle.symbols.specs.Rows.{rows_in}
-use Rattle.tables.proofs.Fronts.{root_words, below_abstraction}
-use Rattle.symbols.proofs.Entering.{words_within, body_enterable, body_full, body_entered, Entering, entering_from, narrow_node, entering_plain, term_enterable, first_word, term_full, entering_term, entering_ended}
-use borrow.Author.Rules.{rules}
+use Rattle.symbols.proofs.Entering.{Entering}
 use Rattle.symbols.proofs.+enter_all_enter_term.Given as goal
 
 abbrev pub decreases-enter_all : goal.decreases-enter_all

@@ -1,9 +1,7 @@
 use mathlib.Core.Path.{sym, ◌∙◌}
-use Prim.Native.Nat.{◌-◌}
 use native.Mathlib.Omega.{arith}
-use lib.ListN.{length}
 use Rattle.tables.proofs.Walks.{walk_on}
-use Rattle.symbols.proofs.Asked.{Asking, asking_from, asking_on, asking_found, asking_missing, asking_ended}
+use Rattle.symbols.proofs.Asked.{asking_from, asking_on, asking_found, asking_missing, asking_ended}
 use borrow.Author.Rules.{rules}
 use Rattle.symbols.proofs.all_found.Goals as goal
 

@@ -1,11 +1,7 @@
 -- `all_found` meets its contract: whether the metavariables of the terms still owed have a row is what was asked of the subterm's.
-use mathlib.Core.Path.{sym, ◌∙◌}
 use Prim.Native.Nat.{◌-◌}
-use native.Mathlib.Omega.{arith}
 use lib.ListN.{length}
-use Rattle.tables.proofs.Walks.{walk_on}
-use Rattle.symbols.proofs.Asked.{Asking, asking_from, asking_on, asking_found, asking_missing, asking_ended}
-use borrow.Author.Rules.{rules}
+use Rattle.symbols.proofs.Asked.{Asking}
 use Rattle.symbols.proofs.all_found.Given as goal
 
 abbrev pub invariant-loop-owed : goal.invariant-loop-owed

@@ -5,7 +5,6 @@ use lib.ListN.{length-set}
 use Rattle.documents.specs.Translation.{unvar}
 use Rattle.tables.specs.Parts.{terms}
 use Rattle.symbols.proofs.Stored.{four_sets}
-use borrow.Author.Rules.{rules}
 use Rattle.symbols.proofs.enter.Goals as goal
 
 pub bounds-table-at-2 : goal.bounds-table-at-2

@@ -1,8 +1,5 @@
-use Prim.Native.Nat.{◌-◌}
 use native.Mathlib.Omega.{arith}
-use mathlib.Core.Logic.{⊎_elim}
-use lib.ListN.{length}
-use Rattle.symbols.proofs.Rows.{Seeking, seeking_from, seeking_here, seeking_on, seeking_ended}
+use Rattle.symbols.proofs.Rows.{seeking_from, seeking_here, seeking_on, seeking_ended}
 use borrow.Author.Rules.{rules}
 use Rattle.symbols.proofs.find.Goals as goal
 use Rattle.symbols.proofs.find.Goals.{then-rows-at+else-rows-at-2, else-rows-at}

@@ -1,11 +1,8 @@
 -- `find` meets its contract: looking a metavariable up in the rows from a place on, behind so many others, is looking it up in all of them. Each row
 -- that is not the one asked for is passed, and a row that is gives its location.
 use Prim.Native.Nat.{◌-◌}
-use native.Mathlib.Omega.{arith}
-use mathlib.Core.Logic.{⊎_elim}
 use lib.ListN.{length}
-use Rattle.symbols.proofs.Rows.{Seeking, seeking_from, seeking_here, seeking_on, seeking_ended}
-use borrow.Author.Rules.{rules}
+use Rattle.symbols.proofs.Rows.{Seeking}
 use Rattle.symbols.proofs.find.Given as goal
 
 abbrev pub invariant-loop-at : goal.invariant-loop-at

@@ -1,5 +1,4 @@
-use Rattle.symbols.proofs.Stored.{Putting, putting_from, putting_on, putting_ended}
-use borrow.Author.Rules.{rules}
+use Rattle.symbols.proofs.Stored.{putting_from, putting_on, putting_ended}
 use Rattle.symbols.proofs.put_variables.Goals as goal
 
 pub loop-left-init : goal.loop-left-init

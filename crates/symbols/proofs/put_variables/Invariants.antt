@@ -1,7 +1,6 @@
 -- `put_variables` meets its contract: writing the variables still left from where it stands gives the words that were asked for. A variable's first
 -- word is its index.
-use Rattle.symbols.proofs.Stored.{Putting, putting_from, putting_on, putting_ended}
-use borrow.Author.Rules.{rules}
+use Rattle.symbols.proofs.Stored.{Putting}
 use Rattle.symbols.proofs.put_variables.Given as goal
 
 abbrev pub invariant-loop-left : goal.invariant-loop-left

@@ -1,7 +1,6 @@
 -- `turns::arguments`: the three tests of an IS, in the code's order.
 use native.Mathlib.Omega.{arith}
 use Rattle.turns.proofs.Turning.{name_high, count_high, current_many, arguments_there}
-use borrow.Author.Rules.{rules}
 use Rattle.turns.proofs.arguments.Goals as goal
 
 pub returns-then-name-gt-MOST_NAME : goal.returns-then-name-gt-MOST_NAME

@@ -1,9 +1,7 @@
 -- `turns::check_list`: the tests of a CHECK, in the code's order.
 use mathlib.Core.Path.{sym, ◌∙◌}
 use native.Mathlib.Omega.{arith}
-use borrow.Author.Tests.{not-true, not-false}
 use Rattle.turns.proofs.Turning.{check_long, check_past, check_high, check_there}
-use borrow.Author.Rules.{rules}
 use Rattle.turns.proofs.check_list.Goals as goal
 
 pub returns-then-code-at-gt-MOST_LISTED : goal.returns-then-code-at-gt-MOST_LISTED

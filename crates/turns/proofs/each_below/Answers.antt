@@ -1,10 +1,6 @@
-use mathlib.Core.Path.{◌≡◌, sym, ◌∙◌}
-use Prim.Native.Nat.{◌-◌, ◌≤◌}
+use mathlib.Core.Path.{sym, ◌∙◌}
 use native.Mathlib.Omega.{arith}
-use lib.ListN.{length, drop}
-use Rattle.documents.specs.Passing.{all_below}
 use Rattle.turns.proofs.Turning.{below_not, below_next, below_all}
-use borrow.Author.Rules.{rules}
 use Rattle.turns.proofs.each_below.Goals as goal
 
 pub returns-then-d-list : goal.returns-then-d-list

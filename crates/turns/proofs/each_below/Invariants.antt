@@ -1,11 +1,8 @@
 -- `turns::each_below`: whether the indices that are left lie below d is whether all do.
-use mathlib.Core.Path.{◌≡◌, sym, ◌∙◌}
+use mathlib.Core.Path.{◌≡◌}
 use Prim.Native.Nat.{◌-◌, ◌≤◌}
-use native.Mathlib.Omega.{arith}
 use lib.ListN.{length, drop}
 use Rattle.documents.specs.Passing.{all_below}
-use Rattle.turns.proofs.Turning.{below_not, below_next, below_all}
-use borrow.Author.Rules.{rules}
 use Rattle.turns.proofs.each_below.Given as goal
 
 abbrev pub invariant-loop-i : goal.invariant-loop-i

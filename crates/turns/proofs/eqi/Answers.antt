@@ -2,7 +2,6 @@
 -- first indices are all below b exactly where they cover it.
 use mathlib.Core.Path.{sym, ◌∙◌}
 use native.Mathlib.Omega.{arith}
-use borrow.Author.Tests.{not-true, not-false}
 use Rattle.turns.proofs.Turning.{eqi_missing, eqi_other, eqi_past, eqi_many, eqi_high, eqi_bare, eqi_there}
 use Rattle.turns.proofs.Entered.{found_low}
 use borrow.Author.Rules.{rules}

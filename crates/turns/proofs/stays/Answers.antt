@@ -1,7 +1,6 @@
 -- `turns::stays`: the opcode says how many fixed words there are, and so what is read; each return is the law of its opcode.
 use mathlib.Core.Path.{sym, ◌∙◌}
 use native.Mathlib.Omega.{arith}
-use borrow.Author.Tests.{not-true, not-false}
 use Rattle.turns.proofs.Turning.{fixed_of, stays_check, stays_full, stays_set, stays_high, stays_eqvar, stays_other, stays_eqimm, stays_eqi}
 use Rattle.turns.proofs.Entered.{entries_length}
 use borrow.Author.Rules.{rules}

@@ -1,7 +1,7 @@
 use mathlib.Core.Path.{refl}
 use native.Mathlib.Omega.{arith}
 use Rattle.matcher.proofs.Opcodes.{top_low, enters}
-use Rattle.watcher.proofs.Following.{Following, following_from, following_refused, following_next, following_stopped, counted_from, following_built}
+use Rattle.watcher.proofs.Following.{following_from, following_refused, following_next, following_stopped, counted_from, following_built}
 use borrow.Author.Rules.{rules}
 use Rattle.watcher.proofs.follow.Goals as goal
 

@@ -1,9 +1,5 @@
 -- `watcher::follow`: the first i instructions come to what those still to come come to from the state that is held.
-use mathlib.Core.Path.{refl}
-use native.Mathlib.Omega.{arith}
-use Rattle.matcher.proofs.Opcodes.{top_low, enters}
-use Rattle.watcher.proofs.Following.{Following, following_from, following_refused, following_next, following_stopped, counted_from, following_built}
-use borrow.Author.Rules.{rules}
+use Rattle.watcher.proofs.Following.{Following}
 use Rattle.watcher.proofs.follow.Given as goal
 
 abbrev pub invariant-loop-left : goal.invariant-loop-left

@@ -2,7 +2,6 @@
 use Rattle.tables.proofs.Accepted.{subject_there}
 use Rattle.checker.proofs.Matching.{verdict_passes}
 use Rattle.watcher.proofs.Following.{watch_unchecked, watch_refused}
-use borrow.Author.Rules.{rules}
 use Rattle.watcher.proofs.watch.Goals as goal
 
 pub returns-in_default : goal.returns-in_default

@@ -1,20 +1,8 @@
 -- `writer::write`, `write_leaf`, `write_entry` and `write_free` call each other. The words of the code that a tree stands in fall at a body. Each says:
 -- whatever words are wanted of a tree that stands there, they were written. `write` itself goes from node to node: what is left to write are the trees at
 -- hand and, before them, the nodes that wait.
-use mathlib.Core.Path.{refl, sym, ap, ◌∙◌}
-use Prim.Native.Nat.{ℕ, ◌+◌, ◌-◌, ◌*◌, ◌<◌}
-use native.Mathlib.Omega.{arith}
-use mathlib.Core.List.{[], ◌∷◌}
-use lib.ListN.{length, length-set}
-use borrow.Author.Rules.{rules}
-use Rattle.links.proofs.Variables.{free_low}
-use Rattle.writer.proofs.Moves.{moves_pushed}
-use Rattle.writer.proofs.Writings.{writes_from, room_from, writes_exactly}
-use Rattle.writer.proofs.Opened.{same_none}
-use Rattle.writer.proofs.Rooting.{leaf_within, tree_root, tree_cell, tree_bound}
-use Rattle.writer.proofs.Entries.{named_part, tree_named, tree_pushed, copied_words}
-use Rattle.writer.proofs.Freed.{key_found, key_missing_lem, free_readable, free_moved, free_falls}
-use Rattle.writer.proofs.Walking.{ready_bound, constant_fits, constant_written, bound_fits, bound_written, body_tree, body_ready, Writing, writing_from, writing_ended, writing_at, leaf_room, leaf_below, writing_leaf, node_cell, opened_high, opened_few, writing_opened, closed_kept, closed_within, closed_cell, closed_some, closed_fit, writing_closed, Entering, entry_root, entering_from, entering_ended, entering_ready, entering_two, entering_within, entering_below, entering_met, entering_room, entering_free, entering_fit, entering_kept}
+use Prim.Native.Nat.{◌+◌, ◌-◌, ◌*◌}
+use Rattle.writer.proofs.Walking.{Writing, Entering}
 use Rattle.writer.proofs.+write_write_entry_write_free_write_leaf.Given as goal
 
 abbrev pub decreases-write : goal.decreases-write

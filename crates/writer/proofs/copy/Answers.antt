@@ -1,8 +1,6 @@
-use Prim.Native.Nat.{◌-◌}
 use native.Mathlib.Omega.{arith}
-use lib.ListN.{length}
 use borrow.Author.Rules.{rules}
-use Rattle.writer.proofs.Writings.{Copying, copying_none, copying_more, copied}
+use Rattle.writer.proofs.Writings.{copying_none, copying_more, copied}
 use Rattle.writer.proofs.copy.Goals as goal
 
 pub loop-i-init : goal.loop-i-init

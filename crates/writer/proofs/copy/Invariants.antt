@@ -1,9 +1,7 @@
 -- `writer::copy`: the part stands before the place word for word, filled from its start.
 use Prim.Native.Nat.{◌-◌}
-use native.Mathlib.Omega.{arith}
 use lib.ListN.{length}
-use borrow.Author.Rules.{rules}
-use Rattle.writer.proofs.Writings.{Copying, copying_none, copying_more, copied}
+use Rattle.writer.proofs.Writings.{Copying}
 use Rattle.writer.proofs.copy.Given as goal
 
 abbrev pub invariant-loop-i : goal.invariant-loop-i

@@ -1,5 +1,4 @@
 -- `writer::inner`: an ADBMAL adds one.
-use borrow.Author.Rules.{rules}
 use Rattle.writer.proofs.Nodes.{cell_lambdas, block_lambdas}
 use Rattle.writer.proofs.inner.Goals as goal
 

@@ -1,7 +1,6 @@
 -- `writer::put`: two stores below the place.
 use native.Mathlib.Omega.{arith}
 use lib.ListN.{length-set}
-use borrow.Author.Rules.{rules}
 use Rattle.writer.proofs.Writings.{wrote_two}
 use Rattle.writer.proofs.put.Goals as goal
 

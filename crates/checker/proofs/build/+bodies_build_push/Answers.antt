@@ -1,13 +1,10 @@
 use mathlib.Core.Path.{refl, sym, ◌∙◌}
-use Prim.Native.Nat.{◌-◌, ◌+◌, ℕ, ◌<◌}
+use Prim.Native.Nat.{◌+◌}
 use native.Mathlib.Omega.{arith}
-use lib.Dec.{ltb}
 use lib.ListN.{get_or}
-use borrow.Author.Tests.{not-true, not-false}
 use Rattle.instructions.proofs.Reading.{fetched_is, fetched_op}
-use Rattle.turns.specs.Held.{entries_of}
 use Rattle.turns.proofs.Entered.{found_low, found_slot}
-use Rattle.checker.proofs.Ending.{entry_operand, entry_operands, Going, ends_done, ends_unfetched, ends_shut, ends_closed, open_low, ends_block, going_block, block_inside, body_inside, ends_absent, ends_entry, entry_range, going_entry, ends_plain, going_plain, Bodied, obey_bare, obey_all, obey_few, obey_long, obey_key, obey_deep, obey_bad, bodied_next, key_not_shut, key_not_done}
+use Rattle.checker.proofs.Ending.{entry_operand, entry_operands, ends_done, ends_unfetched, ends_shut, ends_closed, open_low, ends_block, going_block, block_inside, body_inside, ends_absent, ends_entry, entry_range, going_entry, ends_plain, going_plain, obey_bare, obey_all, obey_few, obey_long, obey_key, obey_deep, obey_bad, bodied_next}
 use Rattle.checker.proofs.Pushing.{push_other, push_many, push_bodies, entry_whole, entry_push, entry_found, entry_absent}
 use borrow.Author.Rules.{rules}
 use Rattle.checker.proofs.build.+bodies_build_push.Goals as goal

@@ -1,17 +1,9 @@
 -- `checker::build::build`, `push` and `bodies` call each other; the words that are left, end - from, fall at every call. In `build` a block's answer goes
 -- on where the block closes, whatever blocks are around; in `bodies` each body stands alone, and its key is one more of the set.
-use mathlib.Core.Path.{refl, sym, ◌∙◌}
-use Prim.Native.Nat.{◌-◌, ◌+◌, ℕ, ◌<◌}
-use native.Mathlib.Omega.{arith}
+use Prim.Native.Nat.{◌-◌}
 use lib.Dec.{ltb}
-use lib.ListN.{get_or}
-use borrow.Author.Tests.{not-true, not-false}
-use Rattle.instructions.proofs.Reading.{fetched_is, fetched_op}
 use Rattle.turns.specs.Held.{entries_of}
-use Rattle.turns.proofs.Entered.{found_low, found_slot}
-use Rattle.checker.proofs.Ending.{entry_operand, entry_operands, Going, ends_done, ends_unfetched, ends_shut, ends_closed, open_low, ends_block, going_block, block_inside, body_inside, ends_absent, ends_entry, entry_range, going_entry, ends_plain, going_plain, Bodied, obey_bare, obey_all, obey_few, obey_long, obey_key, obey_deep, obey_bad, bodied_next, key_not_shut, key_not_done}
-use Rattle.checker.proofs.Pushing.{push_other, push_many, push_bodies, entry_whole, entry_push, entry_found, entry_absent}
-use borrow.Author.Rules.{rules}
+use Rattle.checker.proofs.Ending.{Going, Bodied}
 use Rattle.checker.proofs.build.+bodies_build_push.Given as goal
 
 abbrev pub decreases-bodies : goal.decreases-bodies

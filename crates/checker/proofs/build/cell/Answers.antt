@@ -1,7 +1,6 @@
 -- `checker::build::cell`: the tests of a CELL, in the code's order.
 use native.Mathlib.Omega.{arith}
 use Rattle.checker.proofs.Making.{cell_name, cell_count, cell_few, cell_there}
-use borrow.Author.Rules.{rules}
 use Rattle.checker.proofs.build.cell.Goals as goal
 
 pub returns-then-name-gt-MOST_NAME : goal.returns-then-name-gt-MOST_NAME

@@ -1,7 +1,6 @@
 -- `checker::build::entry_at`: the entry stands at the count less one less x, if there are so many.
 use native.Mathlib.Omega.{arith}
 use Rattle.checker.proofs.Pushing.{entry_place, entry_missing}
-use borrow.Author.Rules.{rules}
 use Rattle.checker.proofs.build.entry_at.Goals as goal
 
 pub returns-then-count-x : goal.returns-then-count-x

@@ -1,7 +1,5 @@
-use Prim.Native.Nat.{◌-◌}
-use lib.ListN.{length}
 use Rattle.tables.proofs.Walks.{walk_on}
-use Rattle.compiler.proofs.Counted.{Counting, counting_from, counting_variable, counting_symbol, counting_abstraction, counting_metavariable, counting_ended}
+use Rattle.compiler.proofs.Counted.{counting_from, counting_variable, counting_symbol, counting_abstraction, counting_metavariable, counting_ended}
 use borrow.Author.Rules.{rules}
 use Rattle.compiler.proofs.length.right_words.Goals as goal
 

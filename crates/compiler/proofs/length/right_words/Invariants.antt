@@ -2,9 +2,7 @@
 -- instructions.
 use Prim.Native.Nat.{◌-◌}
 use lib.ListN.{length}
-use Rattle.tables.proofs.Walks.{walk_on}
-use Rattle.compiler.proofs.Counted.{Counting, counting_from, counting_variable, counting_symbol, counting_abstraction, counting_metavariable, counting_ended}
-use borrow.Author.Rules.{rules}
+use Rattle.compiler.proofs.Counted.{Counting}
 use Rattle.compiler.proofs.length.right_words.Given as goal
 
 abbrev pub invariant-loop-owed : goal.invariant-loop-owed

@@ -1,11 +1,9 @@
 -- `sides::accept_sides` meets its contract: a refused table is handed on, and each question is asked of accepted tables in 01's order, so a refusal is
 -- the first one that is due.
 use mathlib.Core.Path.{sym, ◌∙◌}
-use borrow.Author.Tests.{not-true, not-false}
 use Rattle.documents.specs.Limits.{side_limit}
 use Rattle.tables.proofs.Accepted.{accepted_table}
 use Rattle.compiler.proofs.Called.{left_refused, right_refused, sides_no_symbol, sides_open, sides_not_simple, sides_simple}
-use borrow.Author.Rules.{rules}
 use Rattle.compiler.proofs.sides.accept_sides.Goals as goal
 
 pub returns-in_default : goal.returns-in_default

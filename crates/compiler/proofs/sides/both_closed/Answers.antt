@@ -1,7 +1,5 @@
 -- `sides::both_closed` meets its contract: the right side is asked only if the left one is closed.
 use mathlib.Core.Path.{sym, ◌∙◌}
-use borrow.Author.Tests.{not-true, not-false}
-use borrow.Author.Rules.{rules}
 use Rattle.compiler.proofs.sides.both_closed.Goals as goal
 
 pub returns-then-not-is_closed : goal.returns-then-not-is_closed

@@ -1,9 +1,9 @@
-use Prim.Native.Nat.{ℕ, ◌+◌, ◌-◌, ◌*◌, ◌<◌}
+use Prim.Native.Nat.{◌+◌}
 use native.Mathlib.Omega.{arith}
-use lib.ListN.{length, length-drop}
+use lib.ListN.{length-drop}
 use Rattle.tables.proofs.Parts.{from_drop}
 use Rattle.tables.proofs.Fronts.{root_words}
-use Rattle.generator.proofs.Matching.{Translating, translating_from, translating_ended, plain_fits, plain_on, term_asked, term_on, term_read, is_metavariable, abst_fits, body_low, body_asked, body_done, body_read}
+use Rattle.generator.proofs.Matching.{translating_from, translating_ended, plain_fits, plain_on, term_asked, term_on, term_read, is_metavariable, abst_fits, body_low, body_asked, body_done, body_read}
 use borrow.Author.Rules.{rules}
 use Rattle.generator.proofs.left.+left_side_left_term.Goals as goal
 

@@ -1,13 +1,9 @@
 -- `left::left_side` and `left::left_term` meet their contracts. The words of the terms still owed, written from where the loop stands, make the
 -- table that was asked for; each way through the loop takes the first node's words, or the first term's, from them. A body is shorter than its
 -- abstraction.
-use Prim.Native.Nat.{ℕ, ◌+◌, ◌-◌, ◌*◌, ◌<◌}
-use native.Mathlib.Omega.{arith}
-use lib.ListN.{length, length-drop}
-use Rattle.tables.proofs.Parts.{from_drop}
-use Rattle.tables.proofs.Fronts.{root_words}
-use Rattle.generator.proofs.Matching.{Translating, translating_from, translating_ended, plain_fits, plain_on, term_asked, term_on, term_read, is_metavariable, abst_fits, body_low, body_asked, body_done, body_read}
-use borrow.Author.Rules.{rules}
+use Prim.Native.Nat.{◌+◌, ◌-◌, ◌*◌}
+use lib.ListN.{length}
+use Rattle.generator.proofs.Matching.{Translating}
 use Rattle.generator.proofs.left.+left_side_left_term.Given as goal
 
 abbrev pub decreases-left_side : goal.decreases-left_side

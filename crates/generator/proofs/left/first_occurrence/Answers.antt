@@ -1,7 +1,6 @@
 -- `left::first_occurrence` meets its contract: CHECK and the number of the other indices, these, then SET and NEXT are the words in their order.
 -- That number is what the arguments, which are distinct and below the bound, leave of it.
 use Rattle.generator.proofs.Matching.{first_check, first_list, first_ends, first_written}
-use borrow.Author.Rules.{rules}
 use Rattle.generator.proofs.left.first_occurrence.Goals as goal
 
 pub put_two-list-requires : goal.put_two-list-requires

@@ -3,7 +3,6 @@ use native.Mathlib.Omega.{arith}
 use lib.ListN.{length-drop}
 use Rattle.tables.proofs.Parts.{from_drop}
 use Rattle.generator.proofs.Matching.{later_eqi, later_pairs, later_ends, later_written}
-use borrow.Author.Rules.{rules}
 use Rattle.generator.proofs.left.later_occurrence.Goals as goal
 
 pub put_four-pairs-requires : goal.put_four-pairs-requires

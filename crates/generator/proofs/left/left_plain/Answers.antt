@@ -1,6 +1,5 @@
 -- `left::left_plain` meets its contract: the test of the word is the definition's.
 use borrow.Author.Tests.{lt-ltb, le-ltb}
-use borrow.Author.Rules.{rules}
 use Rattle.generator.proofs.left.left_plain.Goals as goal
 
 pub put_three-requires : goal.put_three-requires

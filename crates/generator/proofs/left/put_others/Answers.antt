@@ -1,7 +1,5 @@
 use mathlib.Core.Path.{sym, ◌∙◌}
-use Prim.Native.Nat.{◌-◌}
-use Rattle.generator.proofs.Matching.{Listing, listing_from, listing_over, listing_fits, listing_on, listing_ended}
-use borrow.Author.Rules.{rules}
+use Rattle.generator.proofs.Matching.{listing_from, listing_over, listing_fits, listing_on, listing_ended}
 use Rattle.generator.proofs.left.put_others.Goals as goal
 
 pub loop-index-init : goal.loop-index-init

@@ -1,9 +1,7 @@
 -- `left::put_others` meets its contract. The indices from the loop's on are still to be looked at: one that is an argument adds nothing to the
 -- list, any other is its next word.
-use mathlib.Core.Path.{sym, ◌∙◌}
 use Prim.Native.Nat.{◌-◌}
-use Rattle.generator.proofs.Matching.{Listing, listing_from, listing_over, listing_fits, listing_on, listing_ended}
-use borrow.Author.Rules.{rules}
+use Rattle.generator.proofs.Matching.{Listing}
 use Rattle.generator.proofs.left.put_others.Given as goal
 
 abbrev pub invariant-loop-index : goal.invariant-loop-index

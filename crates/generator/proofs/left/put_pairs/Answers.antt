@@ -1,10 +1,4 @@
-use lib.ListN.{take}
-use Rattle.documents.specs.Translation.{unvar}
-use Rattle.documents.specs.Instructions.{pair_words}
-use Rattle.documents.specs.Lists.{pairlists}
-use Rattle.tables.specs.Parts.{terms}
-use Rattle.generator.proofs.Matching.{Pairing, pairing_from, pairing_fits, pairing_on, pairing_ended}
-use borrow.Author.Rules.{rules}
+use Rattle.generator.proofs.Matching.{pairing_from, pairing_fits, pairing_on, pairing_ended}
 use Rattle.generator.proofs.left.put_pairs.Goals as goal
 
 pub loop-left-init : goal.loop-left-init

@@ -5,8 +5,7 @@ use Rattle.documents.specs.Translation.{unvar}
 use Rattle.documents.specs.Instructions.{pair_words}
 use Rattle.documents.specs.Lists.{pairlists}
 use Rattle.tables.specs.Parts.{terms}
-use Rattle.generator.proofs.Matching.{Pairing, pairing_from, pairing_fits, pairing_on, pairing_ended}
-use borrow.Author.Rules.{rules}
+use Rattle.generator.proofs.Matching.{Pairing}
 use Rattle.generator.proofs.left.put_pairs.Given as goal
 
 abbrev pub invariant-loop-left : goal.invariant-loop-left

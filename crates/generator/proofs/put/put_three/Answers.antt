@@ -1,6 +1,5 @@
 -- `put::put_three` meets its contract: the first word stands where it is asked for, and the others behind it.
 use Rattle.generator.proofs.Written.{wrote_more}
-use borrow.Author.Rules.{rules}
 use Rattle.generator.proofs.put.put_three.Goals as goal
 
 pub returns : goal.returns

@@ -1,14 +1,9 @@
 -- The four functions of `right` meet their contracts. Each writes the words of what 004's `rhs` says of the node that it stands at, and then those of
 -- the terms inside, by a call; the loops' invariants say that the words of the terms that are left, written from here on, make the table asked for.
 -- What falls from call to call is the part's length, and between functions that are lent the same part a number that tells them apart.
-use mathlib.Core.Path.{sym, ◌∙◌}
-use Prim.Native.Nat.{ℕ, ◌+◌, ◌*◌, ◌<◌}
-use native.Mathlib.Omega.{arith}
+use Prim.Native.Nat.{◌+◌, ◌*◌}
 use lib.ListN.{length}
-use Rattle.tables.proofs.Fronts.{root_words}
-use Rattle.generator.proofs.Matching.{is_metavariable}
-use Rattle.generator.proofs.Building.{falls_along, falls_inside, ready_arguments, ready_body, arguments_within, body_within, fits_variable, builds_variable, fits_arguments, writing_cell, builds_symbol, fits_lambda, fits_inside, writing_adbmal, builds_abstraction, builds_absent, row_of, keys_within, fits_pushi, writing_bodies, builds_metavariable, ready_first, first_within, Joining, joining_from, fits_first_term, joining_on, joining_ended, Keying, keying_from, fits_body, body_length, fits_key, keying_on, keying_ended}
-use borrow.Author.Rules.{rules}
+use Rattle.generator.proofs.Building.{Joining, Keying}
 use Rattle.generator.proofs.right.+right_bodies_right_metavariable_right_side_right_terms.Given as goal
 
 abbrev pub decreases-right_bodies : goal.decreases-right_bodies

@@ -1,5 +1,5 @@
 use native.Mathlib.Omega.{arith}
-use Rattle.instructions.proofs.Bodies.{Passing, passing_from, passing_in, passing_on, passing_end}
+use Rattle.instructions.proofs.Bodies.{passing_from, passing_in, passing_on, passing_end}
 use borrow.Author.Rules.{rules}
 use Rattle.instructions.proofs.body.behind.Goals as goal
 

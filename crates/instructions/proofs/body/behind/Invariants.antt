@@ -1,7 +1,5 @@
 -- `body::behind`: the place behind the bodies that were passed.
-use native.Mathlib.Omega.{arith}
-use Rattle.instructions.proofs.Bodies.{Passing, passing_from, passing_in, passing_on, passing_end}
-use borrow.Author.Rules.{rules}
+use Rattle.instructions.proofs.Bodies.{Passing}
 use Rattle.instructions.proofs.body.behind.Given as goal
 
 abbrev pub invariant-loop-left : goal.invariant-loop-left

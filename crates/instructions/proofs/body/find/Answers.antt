@@ -1,7 +1,7 @@
 use native.Mathlib.Omega.{arith}
 use mathlib.Core.Path.{sym, ap}
 use Rattle.instructions.specs.Bodies.{found_at}
-use Rattle.instructions.proofs.Bodies.{Finding, finding_from, finding_in, finding_on, finding_here, finding_none}
+use Rattle.instructions.proofs.Bodies.{finding_from, finding_in, finding_on, finding_here, finding_none}
 use borrow.Author.Rules.{rules}
 use Rattle.instructions.proofs.body.find.Goals as goal
 

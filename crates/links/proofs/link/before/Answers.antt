@@ -1,6 +1,5 @@
 -- `link::before`: the first of a link's numbers.
 use Rattle.links.proofs.Links.{before_is}
-use borrow.Author.Rules.{rules}
 use Rattle.links.proofs.link.before.Goals as goal
 
 pub returns : goal.returns

@@ -1,6 +1,5 @@
 -- `link::link`: three numbers in one word, each below its limit.
 use Rattle.links.proofs.Links.{link_is}
-use borrow.Author.Rules.{rules}
 use Rattle.links.proofs.link.link.Goals as goal
 
 pub returns : goal.returns

@@ -1,6 +1,5 @@
 -- `link::nodes`: the first of a note's numbers.
 use Rattle.links.proofs.Links.{nodes_is}
-use borrow.Author.Rules.{rules}
 use Rattle.links.proofs.link.nodes.Goals as goal
 
 pub returns : goal.returns

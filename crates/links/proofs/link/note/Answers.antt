@@ -1,6 +1,5 @@
 -- `link::note`: a body's nodes and reach in one word.
 use Rattle.links.proofs.Links.{note_is}
-use borrow.Author.Rules.{rules}
 use Rattle.links.proofs.link.note.Goals as goal
 
 pub returns : goal.returns

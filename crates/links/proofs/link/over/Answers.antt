@@ -1,6 +1,5 @@
 -- `link::over`: the second of them.
 use Rattle.links.proofs.Links.{over_is}
-use borrow.Author.Rules.{rules}
 use Rattle.links.proofs.link.over.Goals as goal
 
 pub returns : goal.returns

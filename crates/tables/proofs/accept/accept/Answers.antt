@@ -2,8 +2,6 @@
 -- may be asked for.
 use mathlib.Core.Path.{sym, ◌∙◌}
 use native.Mathlib.Omega.{arith}
-use borrow.Author.Tests.{not-true, not-false}
-use borrow.Author.Rules.{rules}
 use Rattle.tables.proofs.Accepted.{accept_long, accept_bad, accept_deep, accept_good, good_begins}
 use Rattle.tables.proofs.accept.accept.Goals as goal
 

@@ -1,8 +1,6 @@
 -- `accept::accept_subject` meets its contract: a refusal of the table is handed on, and an accepted table begins with the term whose metavariables
 -- are asked for.
 use mathlib.Core.Path.{sym, ◌∙◌}
-use borrow.Author.Tests.{not-true, not-false}
-use borrow.Author.Rules.{rules}
 use Rattle.documents.specs.Limits.{plan_limit}
 use Rattle.tables.proofs.Accepted.{accepted_table, subject_refused, subject_metavariable, subject_plain}
 use Rattle.tables.proofs.accept.accept_subject.Goals as goal

@@ -1,12 +1,9 @@
-use mathlib.Core.Path.{◌≡◌, sym, ◌∙◌}
-use Prim.Native.Nat.{◌+◌, ◌-◌, ◌*◌, ◌≤◌}
+use mathlib.Core.Path.{sym, ◌∙◌}
+use Prim.Native.Nat.{◌+◌}
 use native.Mathlib.Omega.{arith}
-use lib.ListN.{length, drop, get_or}
-use borrow.Author.Tests.{not-true, not-false}
+use lib.ListN.{get_or}
 use borrow.Author.Rules.{rules}
-use Rattle.documents.specs.Tables.{terms_in}
-use Rattle.tables.specs.Answers.{is_good}
-use Rattle.tables.proofs.Accepted.{layout_narrow, holds, good_start, good_node, good_outside, good_more, good_odd, good_end}
+use Rattle.tables.proofs.Accepted.{layout_narrow, good_start, good_node, good_outside, good_more, good_odd, good_end}
 use Rattle.tables.proofs.accept.good.Goals as goal
 
 pub loop-at-init : goal.loop-at-init

@@ -1,14 +1,11 @@
 -- `accept::good` meets its contract. The words from `at` on hold as many terms as are owed exactly if the table holds one: a node takes one term off
 -- and adds its arguments.
-use mathlib.Core.Path.{◌≡◌, sym, ◌∙◌}
+use mathlib.Core.Path.{◌≡◌}
 use Prim.Native.Nat.{◌+◌, ◌-◌, ◌*◌, ◌≤◌}
-use native.Mathlib.Omega.{arith}
-use lib.ListN.{length, drop, get_or}
-use borrow.Author.Tests.{not-true, not-false}
-use borrow.Author.Rules.{rules}
+use lib.ListN.{length, drop}
 use Rattle.documents.specs.Tables.{terms_in}
 use Rattle.tables.specs.Answers.{is_good}
-use Rattle.tables.proofs.Accepted.{layout_narrow, holds, good_start, good_node, good_outside, good_more, good_odd, good_end}
+use Rattle.tables.proofs.Accepted.{holds}
 use Rattle.tables.proofs.accept.good.Given as goal
 
 abbrev pub invariant-loop-at : goal.invariant-loop-at

@@ -1,8 +1,5 @@
-use Prim.Native.Nat.{◌+◌, ◌-◌, ◌*◌}
 use native.Mathlib.Omega.{arith}
-use lib.ListN.{length}
-use borrow.Author.Rules.{rules}
-use Rattle.tables.proofs.Accepted.{Levels, levels_from_lem, levels_up, levels_end, levels_leaf, levels_down, levels_deep}
+use Rattle.tables.proofs.Accepted.{levels_from_lem, levels_up, levels_end, levels_leaf, levels_down, levels_deep}
 use Rattle.tables.proofs.accept.is_shallow.Goals as goal
 
 pub loop-owed-init : goal.loop-owed-init

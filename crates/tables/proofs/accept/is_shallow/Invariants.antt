@@ -1,10 +1,8 @@
 -- `accept::is_shallow` meets its contract. The terms owed at each level are not deeper than the levels left for them exactly if the whole term is not
 -- deeper than 64: a node's arguments are owed one level further in, and a level without terms is left. The words left and the levels fall.
 use Prim.Native.Nat.{◌+◌, ◌-◌, ◌*◌}
-use native.Mathlib.Omega.{arith}
 use lib.ListN.{length}
-use borrow.Author.Rules.{rules}
-use Rattle.tables.proofs.Accepted.{Levels, levels_from_lem, levels_up, levels_end, levels_leaf, levels_down, levels_deep}
+use Rattle.tables.proofs.Accepted.{Levels}
 use Rattle.tables.proofs.accept.is_shallow.Given as goal
 
 abbrev pub invariant-loop-owed : goal.invariant-loop-owed

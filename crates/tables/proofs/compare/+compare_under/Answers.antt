@@ -1,11 +1,8 @@
 use mathlib.Core.Path.{sym, ◌∙◌}
-use Prim.Native.Nat.{◌-◌, ℕ, ◌<◌}
 use native.Mathlib.Omega.{arith}
-use lib.ListN.{length}
-use borrow.Author.Tests.{not-true, not-false}
 use borrow.Author.Rules.{rules}
 use Rattle.tables.proofs.Walks.{body_falls, body_room}
-use Rattle.tables.proofs.Renamed.{Comparing, comparing_from, comparing_variable, variable_differs, word_differs, count_differs, comparing_applied, bodies, comparing_body, body_differs, comparing_ended}
+use Rattle.tables.proofs.Renamed.{comparing_from, comparing_variable, variable_differs, word_differs, count_differs, comparing_applied, bodies, comparing_body, body_differs, comparing_ended}
 use Rattle.tables.proofs.compare.+compare_under.Goals as goal
 
 pub loop-owed-init : goal.loop-owed-init

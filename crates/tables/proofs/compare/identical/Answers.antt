@@ -1,5 +1,4 @@
 -- `compare::identical` meets its contract: without pairs, and with d = 0, nothing is renamed.
-use borrow.Author.Rules.{rules}
 use Rattle.tables.specs.Parts.{front}
 use Rattle.tables.proofs.Renamed.{not_renamed}
 use Rattle.tables.proofs.compare.identical.Goals as goal

@@ -1,6 +1,5 @@
 -- `compare::is_same_variable` meets its contract, case by case: no variable, a bound one, one that is bound on one side only, and a free one.
 use native.Mathlib.Omega.{arith}
-use borrow.Author.Rules.{rules}
 use Rattle.documents.specs.Instructions.{pairs_in}
 use Rattle.tables.proofs.Renamed.{same_outside, same_bound, same_captured, same_free}
 use Rattle.tables.proofs.compare.is_same_variable.Goals as goal

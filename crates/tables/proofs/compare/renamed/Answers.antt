@@ -1,10 +1,6 @@
 use mathlib.Core.Path.{◌≡◌, refl, sym, ◌∙◌}
-use Prim.Native.Nat.{◌+◌, ◌≤◌, ◌-◌}
+use Prim.Native.Nat.{◌+◌, ◌-◌}
 use native.Mathlib.Omega.{arith}
-use lib.ListN.{length, drop}
-use borrow.Author.Rules.{rules}
-use Rattle.documents.specs.Instructions.{pairs_in}
-use Rattle.documents.specs.Machine.{renaming}
 use Rattle.tables.proofs.Renamed.{pair_found, pair_passed, no_pair}
 use Rattle.tables.proofs.compare.renamed.Goals as goal
 

@@ -1,12 +1,9 @@
 -- `compare::renamed` meets its contract: the pairs from place i on rename the index as all of them do.
-use mathlib.Core.Path.{◌≡◌, refl, sym, ◌∙◌}
-use Prim.Native.Nat.{◌+◌, ◌≤◌, ◌-◌}
-use native.Mathlib.Omega.{arith}
+use mathlib.Core.Path.{◌≡◌}
+use Prim.Native.Nat.{◌≤◌, ◌-◌}
 use lib.ListN.{length, drop}
-use borrow.Author.Rules.{rules}
 use Rattle.documents.specs.Instructions.{pairs_in}
 use Rattle.documents.specs.Machine.{renaming}
-use Rattle.tables.proofs.Renamed.{pair_found, pair_passed, no_pair}
 use Rattle.tables.proofs.compare.renamed.Given as goal
 
 abbrev pub invariant-loop-i : goal.invariant-loop-i

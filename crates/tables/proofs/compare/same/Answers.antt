@@ -1,6 +1,5 @@
--- `compare::same` meets its contract: above all abstractions the comparison is that of the renamed term (`Equal-is`).
+-- `compare::same` meets its contract: above all abstractions the comparison is that of the renamed term (`equal_is`).
 use mathlib.Core.Path.{sym, ◌∙◌}
-use borrow.Author.Rules.{rules}
 use Rattle.documents.specs.Instructions.{pairs_in}
 use Rattle.tables.specs.Parts.{front}
 use Rattle.tables.proofs.Walks.{walked_words, walked_stopped}

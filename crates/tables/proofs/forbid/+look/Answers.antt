@@ -1,10 +1,8 @@
 use mathlib.Core.Path.{sym, ◌∙◌}
-use Prim.Native.Nat.{◌-◌, ℕ, ◌<◌}
 use native.Mathlib.Omega.{arith}
-use lib.ListN.{length}
 use borrow.Author.Rules.{rules}
 use Rattle.tables.proofs.Walks.{body_falls, body_room}
-use Rattle.tables.proofs.Free.{Looking, looking_from, looking_variable, variable_marked, looking_applied, body, looking_body, body_marked, looking_ended}
+use Rattle.tables.proofs.Free.{looking_from, looking_variable, variable_marked, looking_applied, body, looking_body, body_marked, looking_ended}
 use Rattle.tables.proofs.forbid.+look.Goals as goal
 
 pub loop-owed-init : goal.loop-owed-init

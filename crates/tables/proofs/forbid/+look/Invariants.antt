@@ -1,12 +1,8 @@
 -- `forbid::look` meets its contract. Whether a free variable is marked among the terms still owed is what was asked of the first: a variable tells by
 -- itself, a body by the call, with one abstraction more above it. What falls from call to call is the part's length.
-use mathlib.Core.Path.{sym, ◌∙◌}
-use Prim.Native.Nat.{◌-◌, ℕ, ◌<◌}
-use native.Mathlib.Omega.{arith}
+use Prim.Native.Nat.{◌-◌}
 use lib.ListN.{length}
-use borrow.Author.Rules.{rules}
-use Rattle.tables.proofs.Walks.{body_falls, body_room}
-use Rattle.tables.proofs.Free.{Looking, looking_from, looking_variable, variable_marked, looking_applied, body, looking_body, body_marked, looking_ended}
+use Rattle.tables.proofs.Free.{Looking}
 use Rattle.tables.proofs.forbid.+look.Given as goal
 
 abbrev pub decreases-look : goal.decreases-look

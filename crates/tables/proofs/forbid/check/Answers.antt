@@ -1,6 +1,5 @@
 -- `forbid::check` meets its contract: the marks of the list are those of its indices, and where nothing is listed nothing is forbidden.
 use mathlib.Core.Path.{sym, ◌∙◌}
-use borrow.Author.Rules.{rules}
 use Rattle.tables.specs.Parts.{front}
 use Rattle.tables.proofs.Walks.{walked_words, walked_stopped}
 use Rattle.tables.proofs.Free.{marked_list, clear_empty}

@@ -1,6 +1,5 @@
 -- `forbid::is_closed` meets its contract: where every index is marked, any free variable is a marked one.
 use mathlib.Core.Path.{sym, ◌∙◌}
-use borrow.Author.Rules.{rules}
 use Rattle.tables.specs.Parts.{front}
 use Rattle.tables.proofs.Walks.{walked_words, walked_stopped}
 use Rattle.tables.proofs.Free.{marked_everywhere}

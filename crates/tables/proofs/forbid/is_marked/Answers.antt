@@ -1,6 +1,5 @@
 -- `forbid::is_marked` meets its contract: an index below 64 has a mark of its own, and those above share one.
 use native.Mathlib.Omega.{arith}
-use borrow.Author.Rules.{rules}
 use Rattle.tables.proofs.Free.{not_free, own_mark, shared_mark}
 use Rattle.tables.proofs.forbid.is_marked.Goals as goal
 

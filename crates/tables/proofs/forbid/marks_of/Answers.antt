@@ -1,9 +1,7 @@
-use mathlib.Core.Path.{◌≡◌, refl, sym, ◌∙◌}
-use Prim.Native.Nat.{◌≤◌, ◌-◌}
+use mathlib.Core.Path.{refl, sym, ◌∙◌}
 use native.Mathlib.Omega.{arith}
-use lib.ListN.{length, drop, length-set}
+use lib.ListN.{length-set}
 use borrow.Author.Rules.{rules}
-use Rattle.tables.specs.Forbidden.{Small, mark_all, marked_with}
 use Rattle.tables.proofs.Free.{mark_from, mark_done, mark_next, small_next}
 use Rattle.tables.proofs.forbid.marks_of.Goals as goal
 

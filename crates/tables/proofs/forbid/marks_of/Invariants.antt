@@ -1,11 +1,8 @@
 -- `forbid::marks_of` meets its contract: marking what is left of the list gives the marks of the whole list.
-use mathlib.Core.Path.{◌≡◌, refl, sym, ◌∙◌}
+use mathlib.Core.Path.{◌≡◌}
 use Prim.Native.Nat.{◌≤◌, ◌-◌}
-use native.Mathlib.Omega.{arith}
-use lib.ListN.{length, drop, length-set}
-use borrow.Author.Rules.{rules}
+use lib.ListN.{length, drop}
 use Rattle.tables.specs.Forbidden.{Small, mark_all, marked_with}
-use Rattle.tables.proofs.Free.{mark_from, mark_done, mark_next, small_next}
 use Rattle.tables.proofs.forbid.marks_of.Given as goal
 
 abbrev pub invariant-loop-i : goal.invariant-loop-i

@@ -1,11 +1,10 @@
-use Prim.Native.Nat.{ℕ, ◌-◌, ◌<◌, ◌≤◌}
 use native.Mathlib.Omega.{arith}
-use lib.ListN.{length-drop, length, drop}
+use lib.ListN.{length-drop, drop}
 use Rattle.documents.proofs.Nodes.{nodes_positive}
 use Rattle.tables.specs.Parts.{front}
 use borrow.Author.Rules.{rules}
 use Rattle.tables.proofs.Parts.{begins_less, from_drop}
-use Rattle.tables.proofs.Walks.{Walking, walking_from, walking_inside, walking_last, walking_leaf, walking_term, walking_ended}
+use Rattle.tables.proofs.Walks.{walking_from, walking_inside, walking_last, walking_leaf, walking_term, walking_ended}
 use Rattle.tables.proofs.pass.+skip.Goals as goal
 
 pub bounds-part-1 : goal.bounds-part-1

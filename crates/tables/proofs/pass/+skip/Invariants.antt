@@ -1,14 +1,9 @@
 -- `pass::skip` meets its contract. The words passed and those of the arguments still owed are the subterm's; each turn passes one argument, a leaf
 -- by itself and any other by a call, but the last, of which only the node is passed.
 -- What falls from call to call is the part's length.
-use Prim.Native.Nat.{ℕ, ◌-◌, ◌<◌, ◌≤◌}
-use native.Mathlib.Omega.{arith}
-use lib.ListN.{length-drop, length, drop}
-use Rattle.documents.proofs.Nodes.{nodes_positive}
-use Rattle.tables.specs.Parts.{front}
-use borrow.Author.Rules.{rules}
-use Rattle.tables.proofs.Parts.{begins_less, from_drop}
-use Rattle.tables.proofs.Walks.{Walking, walking_from, walking_inside, walking_last, walking_leaf, walking_term, walking_ended}
+use Prim.Native.Nat.{◌-◌, ◌≤◌}
+use lib.ListN.{length}
+use Rattle.tables.proofs.Walks.{Walking}
 use Rattle.tables.proofs.pass.+skip.Given as goal
 
 abbrev pub decreases-skip : goal.decreases-skip

@@ -1,14 +1,7 @@
-use mathlib.Core.Path.{◌≡◌, refl, sym, ◌∙◌}
-use mathlib.Core.Bool.{true}
-use lib.ListN.{drop}
-use borrow.Author.Tests.{not-true, not-false}
-use Rattle.documents.specs.Rules.{are_vars}
-use Rattle.tables.specs.Side.{distinct}
-use Rattle.tables.specs.Parts.{terms}
+use mathlib.Core.Path.{refl, sym, ◌∙◌}
 use Rattle.tables.proofs.Parts.{from_drop}
-use Rattle.tables.proofs.Walks.{Walk, walk_from, walk_variable, ended}
+use Rattle.tables.proofs.Walks.{walk_from, walk_variable, ended}
 use Rattle.tables.proofs.Sides.{is_variable, variables_behind, distinct_here}
-use borrow.Author.Rules.{rules}
 use Rattle.tables.proofs.side.distinct_variables.Goals as goal
 
 pub returns-then-not-variables : goal.returns-then-not-variables

@@ -1,16 +1,12 @@
 -- `side::distinct_variables` meets its contract. All terms are variables by the first call; whether those left are distinct is what was asked of
 -- all, since each that was passed is not among the ones behind it.
-use mathlib.Core.Path.{◌≡◌, refl, sym, ◌∙◌}
+use mathlib.Core.Path.{◌≡◌}
 use mathlib.Core.Bool.{true}
 use lib.ListN.{drop}
-use borrow.Author.Tests.{not-true, not-false}
 use Rattle.documents.specs.Rules.{are_vars}
 use Rattle.tables.specs.Side.{distinct}
 use Rattle.tables.specs.Parts.{terms}
-use Rattle.tables.proofs.Parts.{from_drop}
-use Rattle.tables.proofs.Walks.{Walk, walk_from, walk_variable, ended}
-use Rattle.tables.proofs.Sides.{is_variable, variables_behind, distinct_here}
-use borrow.Author.Rules.{rules}
+use Rattle.tables.proofs.Walks.{Walk}
 use Rattle.tables.proofs.side.distinct_variables.Given as goal
 
 abbrev pub invariant-loop-left : goal.invariant-loop-left

@@ -1,14 +1,8 @@
-use mathlib.Core.Path.{◌≡◌, sym, ◌∙◌}
-use Prim.Native.Nat.{◌-◌}
+use mathlib.Core.Path.{sym, ◌∙◌}
 use native.Mathlib.Omega.{arith}
-use lib.ListN.{length, drop}
-use borrow.Author.Tests.{not-true, not-false}
-use Rattle.documents.specs.Rules.{simple}
-use Rattle.tables.specs.Parts.{front, terms}
 use Rattle.tables.proofs.Parts.{begins_less, from_drop}
-use Rattle.tables.proofs.Walks.{Walk, walk_from, walk_on, ended}
+use Rattle.tables.proofs.Walks.{walk_from, walk_on, ended}
 use Rattle.tables.proofs.Sides.{simple_front, simple_here, simple_behind}
-use borrow.Author.Rules.{rules}
 use Rattle.tables.proofs.side.is_simple.Goals as goal
 
 pub loop-owed-init : goal.loop-owed-init

@@ -1,16 +1,11 @@
 -- `side::is_simple` meets its contract. The walk goes node by node, into arguments too, and whether the terms still owed are simple is what was
 -- asked of the first: at a metavariable the call tells of its arguments, and where they are variables the walk through them changes nothing.
-use mathlib.Core.Path.{◌≡◌, sym, ◌∙◌}
+use mathlib.Core.Path.{◌≡◌}
 use Prim.Native.Nat.{◌-◌}
-use native.Mathlib.Omega.{arith}
 use lib.ListN.{length, drop}
-use borrow.Author.Tests.{not-true, not-false}
 use Rattle.documents.specs.Rules.{simple}
 use Rattle.tables.specs.Parts.{front, terms}
-use Rattle.tables.proofs.Parts.{begins_less, from_drop}
-use Rattle.tables.proofs.Walks.{Walk, walk_from, walk_on, ended}
-use Rattle.tables.proofs.Sides.{simple_front, simple_here, simple_behind}
-use borrow.Author.Rules.{rules}
+use Rattle.tables.proofs.Walks.{Walk}
 use Rattle.tables.proofs.side.is_simple.Given as goal
 
 abbrev pub invariant-loop-owed : goal.invariant-loop-owed

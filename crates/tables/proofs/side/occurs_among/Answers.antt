@@ -1,13 +1,7 @@
 use borrow.Author.Tests.{eq-eqb, ne_eqb}
-use mathlib.Core.Path.{◌≡◌, refl}
-use mathlib.Core.Bool.{true}
-use lib.ListN.{drop}
-use Rattle.documents.specs.Lists.{member}
-use Rattle.documents.specs.Rules.{are_vars, freevars}
-use Rattle.tables.specs.Parts.{terms}
-use Rattle.tables.proofs.Walks.{Walk, walk_from, walk_variable, ended}
+use mathlib.Core.Path.{refl}
+use Rattle.tables.proofs.Walks.{walk_from, walk_variable, ended}
 use Rattle.tables.proofs.Sides.{is_variable, variables_behind, freevars_here}
-use borrow.Author.Rules.{rules}
 use Rattle.tables.proofs.side.occurs_among.Goals as goal
 
 pub loop-left-init : goal.loop-left-init

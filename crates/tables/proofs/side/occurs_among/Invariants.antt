@@ -1,15 +1,12 @@
 -- `side::occurs_among` meets its contract. The terms are variables, so the walk goes from term to term, and a variable's free variable is its own
 -- index; whether the index is among those left is what was asked of all.
-use borrow.Author.Tests.{eq-eqb, ne_eqb}
-use mathlib.Core.Path.{◌≡◌, refl}
+use mathlib.Core.Path.{◌≡◌}
 use mathlib.Core.Bool.{true}
 use lib.ListN.{drop}
 use Rattle.documents.specs.Lists.{member}
 use Rattle.documents.specs.Rules.{are_vars, freevars}
 use Rattle.tables.specs.Parts.{terms}
-use Rattle.tables.proofs.Walks.{Walk, walk_from, walk_variable, ended}
-use Rattle.tables.proofs.Sides.{is_variable, variables_behind, freevars_here}
-use borrow.Author.Rules.{rules}
+use Rattle.tables.proofs.Walks.{Walk}
 use Rattle.tables.proofs.side.occurs_among.Given as goal
 
 abbrev pub invariant-loop-left : goal.invariant-loop-left

@@ -1,14 +1,6 @@
-use mathlib.Core.Path.{◌≡◌}
-use Prim.Native.Nat.{◌-◌}
 use native.Mathlib.Omega.{arith}
-use mathlib.Core.Logic.{⊎_elim}
-use lib.ListN.{length, drop}
-use Rattle.documents.specs.Lists.{is_empty}
-use Rattle.documents.specs.Rules.{metas}
-use Rattle.tables.specs.Parts.{front, terms}
-use Rattle.tables.proofs.Walks.{Walk, walk_from, walk_on, ended}
+use Rattle.tables.proofs.Walks.{walk_from, walk_on, ended}
 use Rattle.tables.proofs.Sides.{metas_front, metas_here, metas_behind}
-use borrow.Author.Rules.{rules}
 use Rattle.tables.proofs.side.plain.Goals as goal
 use Rattle.tables.proofs.side.plain.Goals.{then-word-ge-FIRST_METAVARIABLE+else-word-lt-ABSTRACTION, else-word-ge-FIRST_METAVARIABLE}
 

@@ -1,11 +1,7 @@
-use mathlib.Core.Path.{◌≡◌, refl}
+use mathlib.Core.Path.{refl}
 use native.Mathlib.Omega.{arith}
-use lib.ListN.{drop}
-use Rattle.documents.specs.Rules.{are_vars}
-use Rattle.tables.specs.Parts.{terms}
-use Rattle.tables.proofs.Walks.{Walk, walk_from, walk_variable, ended}
+use Rattle.tables.proofs.Walks.{walk_from, walk_variable, ended}
 use Rattle.tables.proofs.Sides.{no_variable, variables_behind}
-use borrow.Author.Rules.{rules}
 use Rattle.tables.proofs.side.variables.Goals as goal
 
 pub loop-left-init : goal.loop-left-init

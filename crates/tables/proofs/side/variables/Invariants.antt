@@ -1,13 +1,10 @@
 -- `side::variables` meets its contract. A variable is one node, so the walk goes from term to term; whether those left are variables is what was
 -- asked of all.
-use mathlib.Core.Path.{◌≡◌, refl}
-use native.Mathlib.Omega.{arith}
+use mathlib.Core.Path.{◌≡◌}
 use lib.ListN.{drop}
 use Rattle.documents.specs.Rules.{are_vars}
 use Rattle.tables.specs.Parts.{terms}
-use Rattle.tables.proofs.Walks.{Walk, walk_from, walk_variable, ended}
-use Rattle.tables.proofs.Sides.{no_variable, variables_behind}
-use borrow.Author.Rules.{rules}
+use Rattle.tables.proofs.Walks.{Walk}
 use Rattle.tables.proofs.side.variables.Given as goal
 
 abbrev pub invariant-loop-left : goal.invariant-loop-left

@@ -1,7 +1,6 @@
 -- `turns::entries::find`: the entry stands at the count less one less x, if there are so many.
 use native.Mathlib.Omega.{arith}
 use Rattle.turns.proofs.Entered.{found_missing, found_entry}
-use borrow.Author.Rules.{rules}
 use Rattle.turns.proofs.entries.find.Goals as goal
 
 pub returns-then-count-x : goal.returns-then-count-x

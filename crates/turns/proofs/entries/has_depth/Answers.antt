@@ -1,7 +1,6 @@
 -- `turns::entries::has_depth`: by what was found.
 use mathlib.Core.Path.{sym, ◌∙◌}
 use Rattle.turns.proofs.Entered.{same_missing, same_entry}
-use borrow.Author.Rules.{rules}
 use Rattle.turns.proofs.entries.has_depth.Goals as goal
 
 pub returns-in_default : goal.returns-in_default

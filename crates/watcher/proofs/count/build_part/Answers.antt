@@ -1,7 +1,5 @@
-use Prim.Native.Nat.{◌-◌}
 use native.Mathlib.Omega.{arith}
-use lib.ListN.{length}
-use Rattle.watcher.proofs.Growing.{Growing, growing_from, growing_stopped, growing_later, growing_on, growing_done}
+use Rattle.watcher.proofs.Growing.{growing_from, growing_stopped, growing_later, growing_on, growing_done}
 use borrow.Author.Rules.{rules}
 use Rattle.watcher.proofs.count.build_part.Goals as goal
 

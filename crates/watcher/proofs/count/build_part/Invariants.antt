@@ -1,9 +1,7 @@
 -- `count::build_part`: the first i instructions make what those still to come make of the counts so far.
 use Prim.Native.Nat.{◌-◌}
-use native.Mathlib.Omega.{arith}
 use lib.ListN.{length}
-use Rattle.watcher.proofs.Growing.{Growing, growing_from, growing_stopped, growing_later, growing_on, growing_done}
-use borrow.Author.Rules.{rules}
+use Rattle.watcher.proofs.Growing.{Growing}
 use Rattle.watcher.proofs.count.build_part.Given as goal
 
 abbrev pub invariant-loop-at : goal.invariant-loop-at
