@@ -1,12 +1,10 @@
 -- What a list run comes to: request 1's order of refusals, one law for each way out.
 use mathlib.Core.Path.{◌≡◌, refl, sym, ap, ◌∙◌}
-use Prim.Native.Nat.{ℕ, ◌+◌, ◌*◌, ◌/◌, ◌≤◌, ◌<◌, min}
-use native.Mathlib.Omega.{arith}
+use Prim.Native.Nat.{ℕ, ◌/◌, ◌≤◌, ◌<◌, min}
 use mathlib.Core.Bool.{true, false, and-false}
-use mathlib.Core.List.{List, [], ◌∷◌, ◌++◌}
+use mathlib.Core.List.{List, [], ◌∷◌}
 use lib.Dec.{leb}
-use lib.ListN.{length, take, drop, replicate}
-use lib.Seq.{sets-eq, length-take-le}
+use lib.ListN.{length, replicate}
 use borrow.Author.Tests.{le-leb, lt-leb}
 use Rattle.documents.specs.declared.Refusal.{Refusal}
 use Rattle.documents.specs.declared.Refusal.TheVariants.{ListTooLong, WorkingTableShort}
@@ -14,7 +12,7 @@ use Rattle.documents.specs.Limits.{plan_limit}
 use Rattle.documents.specs.Terms.{Term}
 use Rattle.documents.specs.Instructions.{Program}
 use Rattle.documents.specs.Numbers.{Answer, answered, refused, with, subject_in, result_for}
-use Rattle.documents.specs.Calls.{at_front, zeros}
+use Rattle.documents.specs.Calls.{zeros}
 use Rattle.documents.proofs.Lists.{never}
 use Rattle.tables.specs.declared.accept.Sized.{Sized}
 use Rattle.tables.specs.declared.accept.Sized.TheVariants as sized
@@ -25,7 +23,7 @@ use Rattle.rewriting.specs.RuleTable.{listed, rules_in}
 use Rattle.rewriting.specs.ListCall.{rule_limit, plans_for, Rewritten, rewritten, rewrites, list_runs, list_answer, list_call}
 use Rattle.list_run.specs.declared.Ended.{Ended}
 use Rattle.list_run.specs.declared.Ended.TheVariants as ended
-use Rattle.list_run.specs.Answers.{given, Applied, Begun}
+use Rattle.list_run.specs.Answers.{given, Applied}
 
 -- ---- 37, 16, 11, and the subject's refusals
 

@@ -8,14 +8,14 @@ use mathlib.Core.List.{List, ◌++◌}
 use lib.Dec.{leb}
 use lib.ListN.{length, take, drop, replicate}
 use lib.Seq.{sets-eq, take_at, length-take-le}
-use borrow.Author.Tests.{leb-true, lt-leb}
+use borrow.Author.Tests.{lt-leb}
 use Rattle.documents.specs.declared.Refusal.{Refusal}
 use Rattle.documents.specs.declared.Refusal.TheVariants.{ResultTooLarge}
 use Rattle.documents.specs.Limits.{plan_limit}
 use Rattle.documents.specs.Terms.{Term}
-use Rattle.documents.specs.Tables.{table_of, nodes}
+use Rattle.documents.specs.Tables.{nodes}
 use Rattle.documents.specs.Instructions.{Program}
-use Rattle.documents.specs.Numbers.{answered, refused, subject_in, result_for}
+use Rattle.documents.specs.Numbers.{refused, subject_in, result_for}
 use Rattle.documents.specs.Calls.{at_front, zeros}
 use Rattle.documents.proofs.Numbers.{Held, subject_in_held}
 use Rattle.tables.specs.declared.accept.Sized.{Sized}
@@ -24,8 +24,8 @@ use Rattle.tables.specs.Parts.{front}
 use Rattle.tables.specs.Answers.{sized}
 use Rattle.tables.proofs.Accepted.{subject_there}
 use Rattle.matcher.proofs.Parts.{whole_length}
-use Rattle.rewriting.specs.RuleTable.{listed, rules_in}
-use Rattle.rewriting.specs.ListCall.{rule_limit, rewritten, rewrites, list_answer, list_call}
+use Rattle.rewriting.specs.RuleTable.{listed}
+use Rattle.rewriting.specs.ListCall.{rule_limit, rewrites, list_answer, list_call}
 use Rattle.rewriting.proofs.Sequence.{rewrites_breaks}
 use Rattle.rewriting.proofs.Splicing.{within_result}
 use Rattle.rule_table.specs.declared.Laid.{Laid}

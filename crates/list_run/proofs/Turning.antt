@@ -4,45 +4,42 @@ use mathlib.Core.Path.{◌≡◌, refl, sym, ap, ◌∙◌}
 use Prim.Native.Nat.{ℕ, ◌+◌, ◌*◌, ◌^◌, ◌≤◌, ◌<◌}
 use native.Mathlib.Omega.{arith}
 use mathlib.Core.Bool.{true, false}
-use mathlib.Core.Option.{Option, none, some, some-injective}
+use mathlib.Core.Option.{Option, some, some-injective}
 use mathlib.Core.List.{List}
-use lib.ListN.{length, get_or, get_elem?, take, drop, set, replicate}
+use lib.ListN.{length, get_or, take, set, replicate}
 use lib.Seq.{length-take-le}
 use Rattle.documents.specs.declared.Refusal.{Refusal}
-use Rattle.documents.specs.Limits.{plan_limit}
 use Rattle.documents.specs.Terms.{Term}
-use Rattle.documents.specs.Tables.{table_of, nodes, subterm}
+use Rattle.documents.specs.Tables.{table_of, nodes}
 use Rattle.documents.specs.Instructions.{Program}
 use Rattle.documents.specs.Machine.{run}
 use Rattle.documents.specs.Machine as machine
-use Rattle.documents.specs.Numbers.{answered, refused, subject_in, result_for}
-use Rattle.documents.proofs.Numbers.{Held, subject_in_held}
+use Rattle.documents.specs.Numbers.{answered, subject_in}
+use Rattle.documents.proofs.Numbers.{subject_in_held}
 use Rattle.documents.proofs.Nodes.{nodes_positive}
 use Rattle.documents.proofs.Tables.{length_table_of}
-use Rattle.tables.specs.Parts.{front}
 use Rattle.tables.proofs.Accepted.{table_begins}
 use Rattle.rewriting.specs.Rewrites.{is_none, by_first_rule, once}
 use Rattle.rewriting.specs.Replacing.{replace}
-use Rattle.rewriting.specs.ListCall.{rewritten, rewrites}
+use Rattle.rewriting.specs.ListCall.{rewritten}
 use Rattle.rewriting.proofs.FirstNode.{SilentBefore, first_node_lem}
 use Rattle.rewriting.proofs.Searching.{Searched, search_starts, search_again}
 use Rattle.rewriting.proofs.Splicing.{Within, result_within}
 use Rattle.rewriting.proofs.Kept.{once_accepted}
 use Rattle.rewriting.proofs.Sequence.{Running, running_starts, running_ends, running_stops, running_goes, running_breaks}
-use Rattle.rule_table.specs.Places.{code_at, Places}
+use Rattle.rule_table.specs.Places.{code_at}
 use Rattle.rule_table.proofs.Placed.{placed_below, placed_inside, placed_passes, placed_holds, places_obey}
-use Rattle.dispatch.specs.Sorted.{Sorted}
 use Rattle.levels.specs.Levels.{Above}
 use Rattle.levels.proofs.Above.{above_starts, above_depth, above_replaced}
 use Rattle.rewriter.specs.declared.Redex.{Redex}
 use Rattle.rewriter.specs.declared.Replaced.{Replaced}
 use Rattle.rewriter.specs.declared.Replaced.TheVariants as replaced
-use Rattle.rewriter.specs.Replaces.{plan_in, Replacing, ReplacedAs, Replaces}
+use Rattle.rewriter.specs.Replaces.{plan_in, ReplacedAs, Replaces}
 use Rattle.search.specs.declared.Found.{Found}
 use Rattle.search.specs.declared.Found.TheVariants as found
 use Rattle.search.specs.Searches.{Searching, Redexed, FoundAs, Finds}
 use Rattle.list_run.specs.declared.Ended.TheVariants as ended
-use Rattle.list_run.specs.Answers.{Turning, TurnedAs, Turns, Rewriting}
+use Rattle.list_run.specs.Answers.{Turning, Turns, Rewriting}
 
 -- ---- A plan at the front of a table
 

@@ -36,12 +36,7 @@ pub fn reed_check(code: &[u32]) -> u32
 }
 
 // Document 01's run: code applied at the root of a subject, the result at the front of the lent result table.
-pub fn reed_run(
-    code: &[u32],
-    subject: &[u32],
-    working: &mut [u32],
-    res: &mut [u32],
-) -> ReedAnswer
+pub fn reed_run(code: &[u32], subject: &[u32], working: &mut [u32], res: &mut [u32]) -> ReedAnswer
     ensures { Runs code.now subject.now working.old res.old result working.new res.new }
 {
     of_run(runner::run(code, subject, working, res))

@@ -7,10 +7,10 @@ use mathlib.Core.Bool.{Bool, true, false}
 use mathlib.Core.Option.{none, some, some-injective}
 use mathlib.Core.List.{List, [], ◌∷◌}
 use lib.Count.{count_trailing_zeros}
-use lib.Dec.{eqb, ltb}
+use lib.Dec.{ltb}
 use lib.ListN.{length, get_or, get_elem?}
 use lib.Pow.{pow-add, pow_pos, pow_mono, split}
-use borrow.Author.Tests.{eq-eqb, ne_eqb, eqb-true, ltb-true, ltb-false}
+use borrow.Author.Tests.{ne_eqb, ltb-true, ltb-false}
 use Rattle.documents.specs.declared.Refusal.{Refusal}
 use Rattle.documents.specs.Terms.{Term}
 use Rattle.documents.specs.Instructions.{Program}
@@ -27,10 +27,9 @@ use Rattle.matcher.specs.declared.Matched.{Matched}
 use Rattle.matcher.specs.declared.Matched.TheVariants as matched
 use Rattle.matcher.specs.Ready.{Ready, ComesTo, Comes}
 use Rattle.rule_table.specs.Places.{code_at}
-use Rattle.rule_table.proofs.Placed.{member_below, below_member, placed_below, placed_inside, placed_passes, placed_holds}
-use Rattle.dispatch.specs.Sorted.{Candidates}
+use Rattle.rule_table.proofs.Placed.{below_member, placed_below, placed_inside, placed_passes, placed_holds}
 use Rattle.search.specs.declared.Tried.TheVariants as tried
-use Rattle.search.specs.Searches.{Trying, TriedAs, Tries}
+use Rattle.search.specs.Searches.{Trying, Tries}
 use Rattle.search.proofs.Lowest.{below_lowest, lowest_bit}
 
 -- all rules before one fail

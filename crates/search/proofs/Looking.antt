@@ -1,7 +1,7 @@
 -- The search over a plan: node by node from the one that was rewritten last, and before that the nodes above it. What is known of the nodes passed is
 -- `Searched`; where no rule of a node's candidates matches, none of the list does.
-use mathlib.Core.Path.{◌≡◌, refl, sym, ap, ◌∙◌}
-use Prim.Native.Nat.{ℕ, ◌+◌, ◌-◌, ◌*◌, ◌/◌, ◌^◌, ◌≤◌, ◌<◌}
+use mathlib.Core.Path.{◌≡◌, refl}
+use Prim.Native.Nat.{ℕ, ◌+◌, ◌-◌, ◌*◌, ◌/◌, ◌≤◌, ◌<◌}
 use native.Mathlib.Omega.{arith}
 use mathlib.Core.Option.{none, some}
 use mathlib.Core.List.{List}
@@ -22,7 +22,7 @@ use Rattle.matcher.proofs.Parts.{whole_length, begins_at}
 use Rattle.rule_table.specs.Places.{Places}
 use Rattle.dispatch.specs.Sorted.{Sorted, Candidates}
 use Rattle.levels.specs.Levels.{Above}
-use Rattle.levels.proofs.Above.{above_few, above_node, above_back, Looked, looked_starts, looked_here, looked_further, looked_all}
+use Rattle.levels.proofs.Above.{above_node, above_back, Looked, looked_starts, looked_here, looked_further, looked_all}
 use Rattle.rewriter.specs.declared.Redex.{Redex}
 use Rattle.search.specs.declared.Tried.{Tried}
 use Rattle.search.specs.declared.Tried.TheVariants as tried

@@ -1,5 +1,4 @@
 -- `answers::of_check` is `of_check`: of a refusal, the number that `documents::number` gives; else that of done.
-use borrow.Author.Rules.{rules}
 use Rattle.answers.proofs.of_check.Goals as goal
 
 pub returns : goal.returns

@@ -1,5 +1,4 @@
 -- `answers::of_compile` is `of_compile`, case by case; the number of a refusal is what `documents::number` gives.
-use borrow.Author.Rules.{rules}
 use Rattle.answers.proofs.of_compile.Goals as goal
 
 pub returns-in-Words : goal.returns-in-Words

@@ -1,5 +1,4 @@
 -- `answers::of_list_run` is `of_list_run`, case by case; the number of a refusal is what `documents::number` gives, the flag's what `yes` gives.
-use borrow.Author.Rules.{rules}
 use Rattle.answers.proofs.of_list_run.Goals as goal
 
 pub returns-in-Plan : goal.returns-in-Plan

@@ -1,5 +1,4 @@
 -- `answers::of_run` is `of_run`, case by case; the number of a refusal is what `documents::number` gives.
-use borrow.Author.Rules.{rules}
 use Rattle.answers.proofs.of_run.Goals as goal
 
 pub returns-in-Words : goal.returns-in-Words

@@ -1,5 +1,4 @@
 -- `answers::of_watch` is `of_watch`, case by case; the number of a refusal is what `documents::number` gives.
-use borrow.Author.Rules.{rules}
 use Rattle.answers.proofs.of_watch.Goals as goal
 
 pub returns-in-Counts : goal.returns-in-Counts

@@ -1,8 +1,5 @@
-use mathlib.Core.Path.{refl, sym, ap, ◌∙◌}
-use native.Mathlib.Omega.{arith}
 use Rattle.list_run.proofs.Answering.{applied_before}
 use Rattle.list_run.proofs.Planning.{accepted_from, unfit}
-use borrow.Author.Rules.{rules}
 use Rattle.list_run.proofs.accept.Goals as goal
 
 pub plans-requires : goal.plans-requires

@@ -1,10 +1,9 @@
-use mathlib.Core.Path.{refl, sym, ap, ◌∙◌}
+use mathlib.Core.Path.{refl, sym, ◌∙◌}
 use native.Mathlib.Omega.{arith}
-use borrow.Author.Tests.{leb-true, not-true, not-false}
+use borrow.Author.Tests.{leb-true}
 use lib.Seq.{length-take-le}
 use Rattle.list_run.proofs.Answering.{list_many, list_over, list_short}
 use Rattle.list_run.proofs.Planning.{laid_inside, begun_from, bad_rule}
-use borrow.Author.Rules.{rules}
 use Rattle.list_run.proofs.begin.Goals as goal
 
 pub returns-then-rewrites-gt-MOST_REWRITES : goal.returns-then-rewrites-gt-MOST_REWRITES

@@ -1,7 +1,5 @@
-use mathlib.Core.Path.{refl, sym, ap, ◌∙◌}
 use native.Mathlib.Omega.{arith}
 use Rattle.list_run.proofs.Planning.{subject_few, subject_large, may_turn, turned_refused, last_fits, last_length, turned_plan}
-use borrow.Author.Rules.{rules}
 use Rattle.list_run.proofs.plans.Goals as goal
 
 pub returns-then-most-subject : goal.returns-then-most-subject

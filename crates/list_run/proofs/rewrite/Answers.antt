@@ -1,6 +1,5 @@
 use lib.Seq.{length-take-le}
 use mathlib.Core.Path.{sym}
-use borrow.Author.Rules.{rules}
 use Rattle.list_run.proofs.rewrite.Goals as goal
 
 pub slice_bounds-replace-end : goal.slice_bounds-replace-end

@@ -1,9 +1,8 @@
-use mathlib.Core.Path.{refl, sym, ◌∙◌}
-use Prim.Native.Nat.{◌-◌}
+use mathlib.Core.Path.{refl, sym}
 use lib.Seq.{length-take-le}
 use native.Mathlib.Omega.{arith}
 use borrow.Author.Rules.{rules}
-use Rattle.list_run.proofs.Turning.{Turned, turned_starts, may_search, left_within, turned_ends, turned_stops, may_rewrite, turned_breaks, turned_on}
+use Rattle.list_run.proofs.Turning.{turned_starts, may_search, left_within, turned_ends, turned_stops, may_rewrite, turned_breaks, turned_on}
 use Rattle.list_run.proofs.turns.Goals as goal
 
 pub loop-redex-init : goal.loop-redex-init

@@ -1,9 +1,5 @@
-use mathlib.Core.Path.{refl, sym, ◌∙◌}
 use Prim.Native.Nat.{◌-◌}
-use lib.Seq.{length-take-le}
-use native.Mathlib.Omega.{arith}
-use borrow.Author.Rules.{rules}
-use Rattle.list_run.proofs.Turning.{Turned, turned_starts, may_search, left_within, turned_ends, turned_stops, may_rewrite, turned_breaks, turned_on}
+use Rattle.list_run.proofs.Turning.{Turned}
 use Rattle.list_run.proofs.turns.Given as goal
 
 abbrev pub invariant-loop-redex : goal.invariant-loop-redex

@@ -1,7 +1,6 @@
 -- `reedbiscuit::reed_check` gives 01's number of the checker's answer.
 use mathlib.Core.Path.{◌∙◌}
 use Rattle.reedbiscuit.proofs.Given.{check_given}
-use borrow.Author.Rules.{rules}
 use Rattle.reedbiscuit.proofs.reed_check.Goals as goal
 
 pub returns : goal.returns

@@ -1,7 +1,6 @@
 -- `reedbiscuit::reed_list_run` meets request 1's call: the struct is that of the list run's answer, and the list run has written the result table and
 -- cleared the working table.
 use Rattle.reedbiscuit.proofs.Given.{list_run_given}
-use borrow.Author.Rules.{rules}
 use Rattle.reedbiscuit.proofs.reed_list_run.Goals as goal
 
 pub returns : goal.returns

@@ -2,7 +2,6 @@
 -- cleared the working table.
 use mathlib.Core.Path.{◌∙◌}
 use Rattle.reedbiscuit.proofs.Given.{run_given_lem}
-use borrow.Author.Rules.{rules}
 use Rattle.reedbiscuit.proofs.reed_run.Goals as goal
 
 pub returns : goal.returns

@@ -1,11 +1,6 @@
-use borrow.Author.Rules.{rules}
-use mathlib.Core.Path.{refl, ap, ◌∙◌}
-use Rattle.documents.specs.Passing.{passes}
 use Prim.Native.Nat.{◌-◌}
 use lib.ListN.{length}
-use native.Mathlib.Omega.{arith}
-use Rattle.search.proofs.Attempting.{Attempting, attempting_starts, next_is, attempt_matches, attempt_misses, attempt_ends}
-use borrow.Author.Rules.{rules}
+use Rattle.search.proofs.Attempting.{Attempting}
 use Rattle.search.proofs.attempt.Given as goal
 
 abbrev pub invariant-loop-left : goal.invariant-loop-left

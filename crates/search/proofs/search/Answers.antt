@@ -1,5 +1,4 @@
 use Rattle.search.proofs.Looking.{found_above, then_from, found_from}
-use borrow.Author.Rules.{rules}
 use Rattle.search.proofs.search.Goals as goal
 
 pub returns-in_default : goal.returns-in_default

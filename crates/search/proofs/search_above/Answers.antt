@@ -1,10 +1,8 @@
 use borrow.Author.Rules.{rules}
-use mathlib.Core.Path.{◌≡◌, refl, sym, ap, ◌∙◌}
-use Prim.Native.Nat.{◌-◌, ◌/◌}
-use lib.ListN.{get_or}
+use mathlib.Core.Path.{refl}
 use native.Mathlib.Omega.{arith}
 use Rattle.levels.proofs.Above.{above_few, above_back}
-use Rattle.search.proofs.Looking.{LookingAbove, trying_part, node_same, above_from, above_here, above_missed, above_found, above_ends}
+use Rattle.search.proofs.Looking.{trying_part, node_same, above_from, above_here, above_missed, above_found, above_ends}
 use Rattle.search.proofs.search_above.Goals as goal
 
 pub loop-i-init : goal.loop-i-init

@@ -1,10 +1,6 @@
-use borrow.Author.Rules.{rules}
-use mathlib.Core.Path.{◌≡◌, refl, sym, ap, ◌∙◌}
-use Prim.Native.Nat.{◌-◌, ◌/◌}
-use lib.ListN.{get_or}
-use native.Mathlib.Omega.{arith}
-use Rattle.levels.proofs.Above.{above_few, above_back}
-use Rattle.search.proofs.Looking.{LookingAbove, trying_part, node_same, above_from, above_here, above_missed, above_found, above_ends}
+use mathlib.Core.Path.{◌≡◌}
+use Prim.Native.Nat.{◌-◌}
+use Rattle.search.proofs.Looking.{LookingAbove}
 use Rattle.search.proofs.search_above.Given as goal
 
 abbrev pub invariant-loop-i : goal.invariant-loop-i

@@ -1,10 +1,7 @@
 use borrow.Author.Rules.{rules}
-use mathlib.Core.Path.{◌≡◌, refl, sym}
-use Prim.Native.Nat.{◌-◌}
-use Rattle.documents.specs.Tables.{nodes}
-use Rattle.tables.specs.Parts.{front}
+use mathlib.Core.Path.{refl}
 use native.Mathlib.Omega.{arith}
-use Rattle.search.proofs.Looking.{LookingFrom, plan_accepted, looking_here, trying_part, looking_starts, looking_on, looking_missed, looking_found, looking_ends}
+use Rattle.search.proofs.Looking.{plan_accepted, looking_here, trying_part, looking_starts, looking_on, looking_missed, looking_found, looking_ends}
 use Rattle.search.proofs.search_from.Goals as goal
 
 pub loop-node-init : goal.loop-node-init

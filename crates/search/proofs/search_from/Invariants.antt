@@ -1,10 +1,8 @@
-use borrow.Author.Rules.{rules}
-use mathlib.Core.Path.{◌≡◌, refl, sym}
+use mathlib.Core.Path.{◌≡◌}
 use Prim.Native.Nat.{◌-◌}
 use Rattle.documents.specs.Tables.{nodes}
 use Rattle.tables.specs.Parts.{front}
-use native.Mathlib.Omega.{arith}
-use Rattle.search.proofs.Looking.{LookingFrom, plan_accepted, looking_here, trying_part, looking_starts, looking_on, looking_missed, looking_found, looking_ends}
+use Rattle.search.proofs.Looking.{LookingFrom}
 use Rattle.search.proofs.search_from.Given as goal
 
 abbrev pub invariant-loop-node : goal.invariant-loop-node

@@ -1,4 +1,3 @@
-use Prim.Native.Nat.{ℕ, ◌<◌}
 use Rattle.plan.proofs.Digits.{length_one, length_more}
 use Rattle.plan.proofs.Written.{wrote_length, number_one, number_more}
 use borrow.Author.Rules.{rules}

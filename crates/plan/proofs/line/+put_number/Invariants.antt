@@ -1,8 +1,4 @@
 -- `plan::line::put_number` writes a number's digits: those of its tenth, which is smaller, and the last one.
-use Prim.Native.Nat.{ℕ, ◌<◌}
-use Rattle.plan.proofs.Digits.{length_one, length_more}
-use Rattle.plan.proofs.Written.{wrote_length, number_one, number_more}
-use borrow.Author.Rules.{rules}
 use Rattle.plan.proofs.line.+put_number.Given as goal
 
 abbrev pub decreases-put_number : goal.decreases-put_number

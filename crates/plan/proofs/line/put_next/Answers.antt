@@ -3,7 +3,6 @@ use native.Mathlib.Omega.{arith}
 use lib.ListN.{length-set}
 use Rattle.plan.proofs.Digits.{ten_digits}
 use Rattle.plan.proofs.Written.{wrote_length, next_number}
-use borrow.Author.Rules.{rules}
 use Rattle.plan.proofs.line.put_next.Goals as goal
 
 pub put_number-requires : goal.put_number-requires

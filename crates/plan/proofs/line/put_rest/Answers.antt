@@ -1,7 +1,6 @@
-use Prim.Native.Nat.{◌-◌}
 use native.Mathlib.Omega.{arith}
-use lib.ListN.{length, length-set}
-use Rattle.plan.proofs.Written.{Rest, rest_from, rest_on, rest_done}
+use lib.ListN.{length-set}
+use Rattle.plan.proofs.Written.{rest_from, rest_on, rest_done}
 use borrow.Author.Rules.{rules}
 use Rattle.plan.proofs.line.put_rest.Goals as goal
 

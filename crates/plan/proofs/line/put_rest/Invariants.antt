@@ -1,9 +1,7 @@
 -- `plan::line::put_rest` writes the words that are left, one a turn; written from where the loop stands, they make the line that was asked for (`Rest`).
 use Prim.Native.Nat.{◌-◌}
-use native.Mathlib.Omega.{arith}
-use lib.ListN.{length, length-set}
-use Rattle.plan.proofs.Written.{Rest, rest_from, rest_on, rest_done}
-use borrow.Author.Rules.{rules}
+use lib.ListN.{length}
+use Rattle.plan.proofs.Written.{Rest}
 use Rattle.plan.proofs.line.put_rest.Given as goal
 
 abbrev pub invariant-loop-i : goal.invariant-loop-i
