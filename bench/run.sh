@@ -1,49 +1,23 @@
 #!/usr/bin/env bash
 # run.sh [CALL...]: the tables of docs/BENCHMARKS.md, of these calls or of all. A call's instructions are (those of 11 calls - those of 1) / 10;
-# then the bytes of stack that a call writes to. Needs target/staticlib/libreedbiscuit.a (bash program/staticlib.sh) and on x86-64 valgrind. The
-# library is x86-64 code: on another machine the kit's emulator counts its instructions, and those of the second implementation, made x86-64
-# code too (second_in_c/).
+# then the bytes of stack that a call writes to. Needs target/staticlib/libreedbiscuit.a (bash program/staticlib.sh), which is x86-64 code, and
+# valgrind.
 set -euo pipefail
 cd "$(dirname "$0")"
 
 # callgrind counts `rep stosb` once a byte, though it is one instruction; with these the C library clears and copies by vectors instead.
 export GLIBC_TUNABLES=glibc.cpu.x86_rep_stosb_threshold=1000000000:glibc.cpu.x86_rep_movsb_threshold=1000000000
 
+if [ "$(uname -m)" != x86_64 ]; then
+    echo "bench: the library is x86-64 code, the kit makes no other, and this machine is $(uname -m)" >&2
+    exit 1
+fi
 cargo build --offline --release --quiet -j1
 bench=target/release/reed-bench
-scratch=$(mktemp -d)
-trap 'rm -rf "$scratch"' EXIT
-# A line for each instruction goes through it, and is kept nowhere.
-log=$scratch/log
-mkfifo "$log"
-if [ "$(uname -m)" = x86_64 ]; then
-    native=yes
-else
-    native=no
-    mkdir "$scratch/second"
-    sh second_in_c/build.sh "$scratch/second" >&2
-fi
-
-# bench CALL SIDE CASE WHAT: on another machine than x86-64 either side is in a host program
-bench() {
-    if [ $native = no ] && [ "$2" = second ]; then
-        REED_OTHER_HOST=$scratch/second/host "$bench" "$1" reedbiscuit "$3" "$4"
-    else
-        "$bench" "$@"
-    fi
-}
 
 # instructions CALL SIDE CASE TIMES: of the whole program
 instructions() {
-    if [ $native = yes ]; then
-        valgrind --tool=callgrind --callgrind-out-file=/dev/null "$bench" "$@" 2>&1 | awk '/Collected :/ { print $4; found = 1 } END { exit !found }'
-    else
-        grep -c '^Trace' <"$log" >"$scratch/count" &
-        # If the program fails before the emulator has opened the log, nobody else lets go of who reads it.
-        QEMU_ONE_INSN_PER_TB=1 QEMU_LOG=exec,nochain QEMU_LOG_FILENAME=$log bench "$@" || { : <>"$log"; return 1; }
-        wait $!
-        cat "$scratch/count"
-    fi
+    valgrind --tool=callgrind --callgrind-out-file=/dev/null "$bench" "$@" 2>&1 | awk '/Collected :/ { print $4; found = 1 } END { exit !found }'
 }
 
 # a_call CALL SIDE CASE
@@ -75,7 +49,7 @@ tables() {
     echo "| $noun | stack of \`reed_$call\`, bytes | of \`second::$call\` |"
     echo '|---|--:|--:|'
     for case in "$@"; do
-        echo "| $case | $(bench "$call" reedbiscuit "$case" stack) | $(bench "$call" second "$case" stack) |"
+        echo "| $case | $("$bench" "$call" reedbiscuit "$case" stack) | $("$bench" "$call" second "$case" stack) |"
     done
 }
 

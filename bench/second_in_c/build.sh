@@ -1,12 +1,12 @@
 #!/bin/sh
-# build.sh OUT: writes OUT/host, the tests' host program with the second implementation in the library's place, as x86-64 code. rustc has no
-# x86-64 library on another machine; so its LLVM code, not yet optimised, gets another target, and the kit's clang does the rest. What
-# remains undefined is where a panic would go, and what only plan_apply and the seeded cases use; the calls never come there.
+# build.sh OUT: writes OUT/host, the tests' host program with the second implementation in the library's place, for REED_OTHER_HOST
+# (tests/linked/README.md). Its LLVM code, not yet optimised, is made x86-64 code by the kit's clang, as the library is. What remains undefined is
+# where a panic would go, and what only plan_apply and the seeded cases use; the calls never come there.
 set -eu
 out=$1
 here=$(cd "$(dirname "$0")" && pwd -P)
-kit=$(dirname "$(dirname "$(rt doc)")")
-tools=$kit/on/$(uname -m)/toolchain
+kit=$(dirname "$(rt doc)")
+tools=$kit/toolchain
 target=x86_64-unknown-linux-gnu
 layout=e-m:e-p270:32:32-p271:32:32-p272:64:64-i64:64-i128:128-f80:128-n8:16:32:64-S128
 

@@ -1,5 +1,4 @@
-//! The proved library: linked, or where that cannot be, in the tests' host program, which run.sh
-//! lets the emulator count.
+//! The proved library: linked, or where that cannot be, in the tests' host program.
 
 #[cfg(target_arch = "x86_64")]
 pub use linked::engine::linked::{check, compile, list_run, read, run, watch};
