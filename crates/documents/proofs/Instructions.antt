@@ -1,7 +1,7 @@
 -- Code as words and words as code: each gives the other back. Reading walks the words with a number of words to pass over; `pass` turns
 -- that into a place, and then each instruction's own words are read where they stand.
 use mathlib.Core.Path.{◌≡◌, refl, sym, ap, ◌∙◌}
-use Prim.Native.Nat.{ℕ, zero, suc, ◌+◌, ◌-◌, ◌*◌, ◌≤◌}
+use Prim.Native.Nat.{ℕ, zero, suc, ◌+◌, ◌-◌, ◌*◌, ◌≤◌, ◌<◌}
 use native.Mathlib.Omega.{arith}
 use mathlib.Core.Bool.{false, cond}
 use mathlib.Core.Option.{Option, none, some}
@@ -341,3 +341,15 @@ mutual
 -- words that hold a program are its words
 pub words_program_in : (ws : List ℕ) (c : Program) → program_in ws ≡ some c → words c ≡ ws
 words_program_in ws c e = program_words ws 0 (length ws) c (omega arith) e ∙ take-length ws
+
+-- a chunk of two words is a pair, and fewer words are none
+pub pairs_chunk : (x r : List ℕ) → length x ≡ 2 → pairs_in (x ++ r) ≡ (get_or x 0 0, get_or x 1 0) ∷ pairs_in r
+pairs_chunk [] r h = absurd (omega arith)
+pairs_chunk (a ∷ []) r h = absurd (omega arith)
+pairs_chunk (a ∷ b ∷ []) r h = refl
+pairs_chunk (a ∷ b ∷ c ∷ l) r h = absurd (omega arith)
+
+pub pairs_short : (r : List ℕ) → length r < 2 → pairs_in r ≡ []
+pairs_short [] h = refl
+pairs_short (a ∷ []) h = refl
+pairs_short (a ∷ b ∷ l) h = absurd (omega arith)

@@ -7,50 +7,33 @@ pub mod op; // the fourteen opcodes
 ghost use Rattle.std.specs.Prelude.{◌≡◌};
 ghost use Rattle.documents.specs.Numbers.{number_of};
 
-#[derive(Drop)]
+#[derive(Clone, Copy, Debug, PartialEq, Eq)]
 pub enum Refusal {
-    TableNotGood,
-    TooManyWords,
-    TooDeep,
-    MetavariableInSubject,
-    LeftRootNoSymbol,
-    FreeVariable,
-    ArgumentsNotDistinctVariables,
-    MetavariableAbsentOnLeft,
-    TooManyMetavariables,
-    CodeTableShort,
-    DoesNotPass,
-    MatchFails,
-    ResultTooLarge,
-    ResultTooDeep,
-    ResultIndexTooLarge,
-    WorkingTableShort,
-    BadFile,
-    ListTooLong,
+    TableNotGood = 1,
+    TooManyWords = 2,
+    TooDeep = 3,
+    MetavariableInSubject = 4,
+    LeftRootNoSymbol = 5,
+    FreeVariable = 6,
+    ArgumentsNotDistinctVariables = 7,
+    MetavariableAbsentOnLeft = 8,
+    TooManyMetavariables = 9,
+    CodeTableShort = 10,
+    DoesNotPass = 11,
+    MatchFails = 12,
+    ResultTooLarge = 13,
+    ResultTooDeep = 14,
+    ResultIndexTooLarge = 15,
+    WorkingTableShort = 16,
+    BadFile = 17,
+    ListTooLong = 37,
 }
 
 // The number of a refusal.
-pub fn number(refusal: Refusal) -> u32
-    ensures { result ≡ number_of refusal }
-{
-    match refusal {
-        Refusal::TableNotGood => 1,
-        Refusal::TooManyWords => 2,
-        Refusal::TooDeep => 3,
-        Refusal::MetavariableInSubject => 4,
-        Refusal::LeftRootNoSymbol => 5,
-        Refusal::FreeVariable => 6,
-        Refusal::ArgumentsNotDistinctVariables => 7,
-        Refusal::MetavariableAbsentOnLeft => 8,
-        Refusal::TooManyMetavariables => 9,
-        Refusal::CodeTableShort => 10,
-        Refusal::DoesNotPass => 11,
-        Refusal::MatchFails => 12,
-        Refusal::ResultTooLarge => 13,
-        Refusal::ResultTooDeep => 14,
-        Refusal::ResultIndexTooLarge => 15,
-        Refusal::WorkingTableShort => 16,
-        Refusal::BadFile => 17,
-        Refusal::ListTooLong => 37,
+impl From<Refusal> for u32 {
+    ghost from_gives = { λ refusal number. number ≡ number_of refusal };
+
+    fn from(refusal: Refusal) -> u32 {
+        refusal as u32
     }
 }

@@ -5,15 +5,14 @@ use native.Mathlib.Omega.{arith}
 use mathlib.Core.Bool.{true, ◌&&◌, and-false}
 use mathlib.Core.List.{List, [], ◌∷◌}
 use lib.Dec.{eqb, ltb}
-use lib.ListN.{length, get_or, drop, length-drop, drop_of_length-le}
+use lib.ListN.{length, get_or, drop, drop_of_length-le}
 use lib.Bits.{bit_and, bit_or}
 use lib.Pow.{pow_pos, shl_exact}
 use borrow.Author.Tests.{lt-ltb, le-ltb, ltb-true}
-use Rattle.documents.specs.Instructions.{pairs_in}
 use Rattle.documents.specs.Machine.{firsts}
 use Rattle.documents.specs.Passing.{all_below}
 use Rattle.documents.proofs.Lists.{on, T_of, of_and, at_cons}
-use Rattle.indices.specs.declared.Indices.TheVariants as indices
+use Rattle.std.specs.Prelude.{Some, None}
 use Rattle.indices.specs.Sets.{inserted, gathered, full, firsts_in}
 
 -- one bit, shifted within 64
@@ -48,31 +47,20 @@ module _ (t : List ℕ) (i m : ℕ) where
   unfolding gathered
   gathered_all h = rw (drop_of_length-le t h)
 
-  module _ (b d : ℕ) where
-    pub pairs_all : length t ≤ i + 1 → firsts_in (pairs_in (drop i t)) m b d ≡ indices.Of m
+module _ (b d m : ℕ) where
+  pub firsts_none : firsts_in [] m b d ≡ Some m
+  unfolding firsts_in gathered
+  firsts_none = refl
+
+  module _ (x y : ℕ) (ps : List (ℕ × ℕ)) where
+    pub first_high : b ≤ x → firsts_in ((x, y) ∷ ps) m b d ≡ None
+    unfolding firsts_in
+    first_high p = rw (le-ltb x b p)
+
+    pub second_high : d ≤ y → firsts_in ((x, y) ∷ ps) m b d ≡ None
+    unfolding firsts_in
+    second_high p = rw (le-ltb y d p, and-false (ltb x b && all_below b (firsts ps)))
+
+    pub pair_next : (n : ℕ) → x < b → y < d → n ≡ inserted m x → firsts_in ((x, y) ∷ ps) m b d ≡ firsts_in ps n b d
     unfolding firsts_in gathered
-    pairs_all h = go (drop i t) (simp length-drop (omega arith))
-      where
-        go : (l : List ℕ) → length l ≤ 1 → firsts_in (pairs_in l) m b d ≡ indices.Of m
-        go [] h = refl
-        go (x ∷ []) h = refl
-        go (x ∷ y ∷ l) h = absurd (omega arith)
-
-    module _ (h : i + 1 < length t) where
-      two : drop i t ≡ get_or t i 0 ∷ get_or t (i + 1) 0 ∷ drop (i + 2) t
-      two =
-          let e : i + 1 + 1 ≡ i + 2 = omega arith in
-          rw (at_cons t i (omega arith), at_cons t (i + 1) h, e)
-
-      pub first_high : b ≤ get_or t i 0 → firsts_in (pairs_in (drop i t)) m b d ≡ indices.Refused
-      unfolding firsts_in
-      first_high p = rw (two, le-ltb (get_or t i 0) b p)
-
-      pub second_high : d ≤ get_or t (i + 1) 0 → firsts_in (pairs_in (drop i t)) m b d ≡ indices.Refused
-      unfolding firsts_in
-      second_high p = rw (two, le-ltb (get_or t (i + 1) 0) d p, and-false (ltb (get_or t i 0) b && all_below b (firsts (pairs_in (drop (i + 2) t)))))
-
-      pub pair_next : (n : ℕ) → get_or t i 0 < b → get_or t (i + 1) 0 < d → n ≡ inserted m (get_or t i 0)
-          → firsts_in (pairs_in (drop i t)) m b d ≡ firsts_in (pairs_in (drop (i + 2) t)) n b d
-      unfolding firsts_in gathered
-      pair_next n p q e = rw (two, lt-ltb (get_or t i 0) b p, lt-ltb (get_or t (i + 1) 0) d q, e)
+    pair_next n p q e = rw (lt-ltb x b p, lt-ltb y d q, e)

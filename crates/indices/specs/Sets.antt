@@ -1,11 +1,9 @@
 -- Sets of indices below 64 as numbers: index i is in set m where the i-th bit of m is 1.
-use Rattle.std.specs.Prelude.{ℕ, suc, ◌-◌, ◌/◌, ◌%◌, ◌^◌, Bool, ◌&&◌, cond, List, [], ◌∷◌, eqb}
+use Rattle.std.specs.Prelude.{ℕ, suc, ◌-◌, ◌/◌, ◌%◌, ◌^◌, Bool, ◌&&◌, cond, List, [], ◌∷◌, eqb, Option, Some, None}
 use Rattle.std.specs.Int.Bits.{bit_and, bit_or}
 use Rattle.documents.specs.Lists.{keep, up_to}
 use Rattle.documents.specs.Machine.{firsts}
 use Rattle.documents.specs.Passing.{all_below, seconds}
-use Rattle.indices.specs.declared.Indices.{Indices}
-use Rattle.indices.specs.declared.Indices.TheVariants as indices
 
 -- index i is in it
 abbrev pub has : ℕ → ℕ → Bool
@@ -29,5 +27,5 @@ unfoldable pub full : ℕ → ℕ → Bool
 full m b = eqb (bit_and m (2 ^ b - 1)) (2 ^ b - 1)
 
 -- a set with the first indices of pairs, if they are below b and the second ones below d
-unfoldable pub firsts_in : List (ℕ × ℕ) → ℕ → ℕ → ℕ → Indices
-firsts_in ps m b d = cond (all_below b (firsts ps) && all_below d (seconds ps)) (indices.Of (gathered m (firsts ps))) indices.Refused
+unfoldable pub firsts_in : List (ℕ × ℕ) → ℕ → ℕ → ℕ → Option ℕ
+firsts_in ps m b d = cond (all_below b (firsts ps) && all_below d (seconds ps)) (Some (gathered m (firsts ps))) None

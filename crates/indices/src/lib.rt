@@ -6,13 +6,6 @@ ghost use Rattle.documents.specs.Instructions.{pairs_in};
 ghost use Rattle.documents.specs.Passing.{all_below};
 ghost use Rattle.indices.specs.Sets.{inserted, gathered, full, firsts_in};
 
-// What was gathered, or an index that is too large.
-#[derive(Drop)]
-pub enum Indices {
-    Of(u64),
-    Refused,
-}
-
 pub fn insert(set: u64, index: u32) -> u64
     requires { index ≤ 63 }
     ensures { result ≡ inserted set index }
@@ -25,11 +18,9 @@ pub fn gather(list: &[u32]) -> u64
     requires { all_below 64 list.now ≡ true }
     ensures { result ≡ gathered 0 list.now }
 {
-    let mut set: u64 = 0;
-    let mut i: usize = 0;
-    while i < list.len() {
-        set = insert(set, list[i]);
-        i += 1;
+    let mut set = 0;
+    for &index in list {
+        set = insert(set, index);
     }
     set
 }
@@ -44,22 +35,17 @@ pub fn all_below(set: u64, b: u32) -> bool
 }
 
 // The first indices of pairs, with those of a set, if they are below b and the second ones below d.
-pub fn firsts(pairs: &[u32], set: u64, b: u32, d: u32) -> Indices
+pub fn firsts(pairs: &[u32], set: u64, b: u32, d: u32) -> Option<u64>
     requires { b ≤ 63 }
     ensures { result ≡ firsts_in (pairs_in pairs.now) set b d }
 {
     let mut firsts = set;
-    let mut i: usize = 0;
-    while i + 1 < pairs.len() {
-        let first = pairs[i];
-        if b <= first {
-            return Indices::Refused;
-        }
-        if d <= pairs[i + 1] {
-            return Indices::Refused;
+    for pair in pairs.chunks_exact(2) {
+        let (first, second) = (pair[0], pair[1]);
+        if b <= first || d <= second {
+            return None;
         }
         firsts = insert(firsts, first);
-        i += 2;
     }
-    Indices::Of(firsts)
+    Some(firsts)
 }

@@ -87,8 +87,8 @@ module _ {t : List ℕ} {q₀ c₀ y q c : ℕ} (f : Finding t q₀ c₀ y q c) 
   pub finding_in : 0 < c → body_end t q ≤ length t
   finding_in h = (readable_more t q c f.readable h).0
 
-  pub finding_on : 0 < c → ((get_or t q 0 ≡ y) → ⊥) → Finding t q₀ c₀ y (body_end t q) (c - 1)
-  finding_on h n = record { readable = (readable_more t q c f.readable h).1; same = sym (key_later t q c y h n) ∙ f.same }
+  pub finding_on : {d : ℕ} → 0 < c → d ≡ c - 1 → ((get_or t q 0 ≡ y) → ⊥) → Finding t q₀ c₀ y (body_end t q) d
+  finding_on h e n = rw e record { readable = (readable_more t q c f.readable h).1; same = sym (key_later t q c y h n) ∙ f.same }
 
   pub finding_here : 0 < c → get_or t q 0 ≡ y → key_place t q₀ c₀ y ≡ some q
   finding_here h e = sym f.same ∙ key_here t q c y h e
@@ -108,8 +108,8 @@ module _ {t : List ℕ} {q₀ c₀ q c : ℕ} (f : Passing t q₀ c₀ q c) wher
   pub passing_in : 0 < c → body_end t q ≤ length t
   passing_in h = (readable_more t q c f.readable h).0
 
-  pub passing_on : 0 < c → Passing t q₀ c₀ (body_end t q) (c - 1)
-  passing_on h = record { readable = (readable_more t q c f.readable h).1; same = sym (behind_later t q c h) ∙ f.same }
+  pub passing_on : {d : ℕ} → 0 < c → d ≡ c - 1 → Passing t q₀ c₀ (body_end t q) d
+  passing_on h e = rw e record { readable = (readable_more t q c f.readable h).1; same = sym (behind_later t q c h) ∙ f.same }
 
   pub passing_end : c ≤ 0 → q ≡ place_behind t q₀ c₀
   passing_end h = sym (behind_none t q c h) ∙ f.same

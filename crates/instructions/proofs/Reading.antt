@@ -16,7 +16,7 @@ use Rattle.documents.specs.Lists.{need}
 use Rattle.documents.specs.Instructions.{IS, ISABST, NEXT, CHECK, SET, EQVAR, EQIMM, EQI, CELL, LAMBDA, ADBMAL, PUSHVAR, PUSHIMM, PUSHI, End, ◌▸◌, None, Body, Instruction, Program, Bodies, Read, whole, ReadBodies, whole_bodies, opcode, fixed_after, body_count, pairs_in, plain_in, before, plain_then, bodies_then, body_then, program_from, bodies_from}
 use Rattle.documents.proofs.Lists.{at_cons, never, case, on, off, needed, branch}
 use Rattle.documents.proofs.Instructions.{program_pass, bodies_pass}
-use Rattle.instructions.specs.declared.Place.TheVariants.{At, Refused}
+use Rattle.std.specs.Prelude.{Ok, Err}
 use Rattle.instructions.specs.Places.{program_at, bodies_at, whole_within, read_at, place_if, fetched}
 
 pub nothing : {A P : Type 0} {a : A} → none ≡ some a → P
@@ -148,46 +148,46 @@ module _ (t : List ℕ) (a e : ℕ) where
 
   -- ---- the reader's answer
 
-  pub fetched_high : 13 < get_or t a 0 → Refused DoesNotPass ≡ fetched t a e
+  pub fetched_high : 13 < get_or t a 0 → Err DoesNotPass ≡ fetched t a e
   unfolding fetched
   fetched_high h = rw (lt-leb (get_or t a 0) 13 h)
 
   module _ (n : ℕ) (lo : get_or t a 0 ≤ 13) (q : n ≡ fixed_after (get_or t a 0)) (h : a < e) where
-    pub fetched_short : e - a - 1 < n → Refused DoesNotPass ≡ fetched t a e
+    pub fetched_short : e - a - 1 < n → Err DoesNotPass ≡ fetched t a e
     unfolding fetched
     fetched_short s = rw (le-leb (get_or t a 0) 13 lo, lt-leb (a + 1 + fixed_after (get_or t a 0)) e (omega arith))
 
-    pub fetched_there : n ≤ e - a - 1 → At (a + 1 + n) ≡ fetched t a e
+    pub fetched_there : n ≤ e - a - 1 → Ok (a + 1 + n) ≡ fetched t a e
     unfolding fetched
     fetched_there s = rw (le-leb (get_or t a 0) 13 lo, le-leb (a + 1 + fixed_after (get_or t a 0)) e (omega arith), q)
 
-  pub fetched_is : (n : ℕ) → fetched t a e ≡ At n → (n ≡ a + 1 + fixed_after (get_or t a 0)) × (n ≤ e)
+  pub fetched_is : (n : ℕ) → fetched t a e ≡ Ok n → (n ≡ a + 1 + fixed_after (get_or t a 0)) × (n ≤ e)
   unfolding fetched
   fetched_is n p = go (leb (get_or t a 0) 13) (leb (a + 1 + fixed_after (get_or t a 0)) e) refl p
     where
-      go : (b c : Bool) → c ≡ leb (a + 1 + fixed_after (get_or t a 0)) e → cond b (place_if c (a + 1 + fixed_after (get_or t a 0))) (Refused DoesNotPass) ≡ At n
+      go : (b c : Bool) → c ≡ leb (a + 1 + fixed_after (get_or t a 0)) e → cond b (place_if c (a + 1 + fixed_after (get_or t a 0))) (Err DoesNotPass) ≡ Ok n
           → (n ≡ a + 1 + fixed_after (get_or t a 0)) × (n ≤ e)
       go true true q p = let h : n ≡ a + 1 + fixed_after (get_or t a 0) = cc in (h, rw h (leb-true (a + 1 + fixed_after (get_or t a 0)) e (sym q)))
       go true false q p = never (cc)
       go false c q p = never (cc)
 
-  pub fetched_opcode : (n : ℕ) → fetched t a e ≡ At n → get_or t a 0 ≤ 13
+  pub fetched_opcode : (n : ℕ) → fetched t a e ≡ Ok n → get_or t a 0 ≤ 13
   unfolding fetched
   fetched_opcode n p =
-      case (λ b. cond b (place_if (leb (a + 1 + fixed_after (get_or t a 0)) e) (a + 1 + fixed_after (get_or t a 0))) (Refused DoesNotPass) ≡ At n → get_or t a 0 ≤ 13)
+      case (λ b. cond b (place_if (leb (a + 1 + fixed_after (get_or t a 0)) e) (a + 1 + fixed_after (get_or t a 0))) (Err DoesNotPass) ≡ Ok n → get_or t a 0 ≤ 13)
       (leb (get_or t a 0) 13) (λ x q. leb-true (get_or t a 0) 13 (on _ x)) (λ x q. never (cc)) p
 
   -- with one opcode known
-  pub fetched_op : (n w : ℕ) → fetched t a e ≡ At n → get_or t a 0 ≡ w → (n ≡ a + 1 + fixed_after w) × (n ≤ e)
+  pub fetched_op : (n w : ℕ) → fetched t a e ≡ Ok n → get_or t a 0 ≡ w → (n ≡ a + 1 + fixed_after w) × (n ≤ e)
   fetched_op n w p o = let f = fetched_is n p in (f.0 ∙ rw o, f.1)
 
-  pub unfetched : (w : Refusal) → a < e → fetched t a e ≡ Refused w → read_at t a e ≡ none
+  pub unfetched : (w : Refusal) → a < e → fetched t a e ≡ Err w → read_at t a e ≡ none
   unfolding fetched read_at
   unfetched w h p =
-      case (λ b. cond b (place_if (leb (a + 1 + fixed_after (get_or t a 0)) e) (a + 1 + fixed_after (get_or t a 0))) (Refused DoesNotPass) ≡ Refused w → read_at t a e ≡ none)
+      case (λ b. cond b (place_if (leb (a + 1 + fixed_after (get_or t a 0)) e) (a + 1 + fixed_after (get_or t a 0))) (Err DoesNotPass) ≡ Err w → read_at t a e ≡ none)
       (leb (get_or t a 0) 13)
       (λ x.
-      case (λ b. place_if b (a + 1 + fixed_after (get_or t a 0)) ≡ Refused w → read_at t a e ≡ none) (leb (a + 1 + fixed_after (get_or t a 0)) e)
+      case (λ b. place_if b (a + 1 + fixed_after (get_or t a 0)) ≡ Err w → read_at t a e ≡ none) (leb (a + 1 + fixed_after (get_or t a 0)) e)
       (λ y q. never (cc))
       (λ y q. let k = leb-false (a + 1 + fixed_after (get_or t a 0)) e (off _ y) in rw (lt-leb (fixed_after (get_or t a 0)) (e - (a + 1)) (omega arith))))
       (λ x q.
@@ -275,13 +275,13 @@ module _ (t : List ℕ) (a e : ℕ) where
     unfolding program_from
     program_short h = rw (at_cons t a (omega arith), left, lt-leb (fixed_after (get_or t a 0)) (e - (a + 1)) (omega arith))
 
-    pub program_unfetched : (w : Refusal) → fetched t a e ≡ Refused w → program_at t a e ≡ none
+    pub program_unfetched : (w : Refusal) → fetched t a e ≡ Err w → program_at t a e ≡ none
     unfolding fetched
     program_unfetched w p =
-        case (λ b. cond b (place_if (leb (a + 1 + fixed_after (get_or t a 0)) e) (a + 1 + fixed_after (get_or t a 0))) (Refused DoesNotPass) ≡ Refused w → program_at t a e ≡ none)
+        case (λ b. cond b (place_if (leb (a + 1 + fixed_after (get_or t a 0)) e) (a + 1 + fixed_after (get_or t a 0))) (Err DoesNotPass) ≡ Err w → program_at t a e ≡ none)
         (leb (get_or t a 0) 13)
         (λ x.
-        case (λ b. place_if b (a + 1 + fixed_after (get_or t a 0)) ≡ Refused w → program_at t a e ≡ none) (leb (a + 1 + fixed_after (get_or t a 0)) e)
+        case (λ b. place_if b (a + 1 + fixed_after (get_or t a 0)) ≡ Err w → program_at t a e ≡ none) (leb (a + 1 + fixed_after (get_or t a 0)) e)
         (λ y q. never (cc))
         (λ y q. program_short (leb-false (a + 1 + fixed_after (get_or t a 0)) e (off _ y))))
         (λ x q. let k = leb-false (get_or t a 0) 13 (off _ x) in program_plain (λ z. omega arith) ∙ rw (unfetched w lo p))

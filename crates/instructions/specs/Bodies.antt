@@ -1,8 +1,7 @@
 -- The bodies of a PUSHI in the code: each a key, the number of the body's words, the body.
-use Rattle.std.specs.Prelude.{ℕ, zero, suc, ◌+◌, ◌≤◌, cond, List, eqb, length, get_or}
+use Rattle.std.specs.Prelude
+use Rattle.std.specs.Prelude.{ℕ, zero, suc, ◌+◌, ◌≤◌, cond, List, eqb, length, get_or, Some, None}
 use Rattle.std.proofs.Math.Option.{Option, none, some}
-use Rattle.instructions.specs.declared.body.Found.{Found}
-use Rattle.instructions.specs.declared.body.Found.TheVariants.{Key, Missing}
 
 -- the place behind a body whose key stands at q
 abbrev pub body_end : List ℕ → ℕ → ℕ
@@ -18,9 +17,9 @@ unfoldable pub key_place : List ℕ → ℕ → ℕ → ℕ → Option ℕ
 key_place t q zero y = none
 key_place t q (suc c) y = cond (eqb (get_or t q 0) y) (some q) (key_place t (body_end t q) c y)
 
-abbrev pub found_at : Option ℕ → Found
-found_at none = Missing
-found_at (some q) = Key q
+abbrev pub found_at : Option ℕ → Prelude.Option ℕ
+found_at none = None
+found_at (some q) = Some q
 
 -- the place behind c bodies from q on
 unfoldable pub place_behind : List ℕ → ℕ → ℕ → ℕ

@@ -2,27 +2,19 @@
 ghost use Rattle.std.specs.Prelude.{◌≡◌, ◌+◌, ◌<◌};
 ghost use Rattle.instructions.specs.Bodies.{key_place, place_behind, found_at, Readable};
 
-#[derive(Drop)]
-pub enum Found {
-    Key(usize),
-    Missing,
-}
-
 // The first of so many keys, from a place on, that is this index.
-pub fn find(code: &[u32], bodies: usize, count: u32, index: u32) -> Found
+pub fn find(code: &[u32], bodies: usize, count: u32, index: u32) -> Option<usize>
     requires { Readable code.now bodies count }
     ensures { result ≡ found_at (key_place code.now bodies count index) }
 {
     let mut at = bodies;
-    let mut left = count;
-    while 0 < left {
+    for _ in 0..count {
         if code[at] == index {
-            return Found::Key(at);
+            return Some(at);
         }
         at = at + 2 + code[at + 1] as usize;
-        left -= 1;
     }
-    Found::Missing
+    None
 }
 
 // The place behind so many bodies.
@@ -31,10 +23,8 @@ pub fn behind(code: &[u32], bodies: usize, count: u32) -> usize
     ensures { result ≡ place_behind code.now bodies count }
 {
     let mut at = bodies;
-    let mut left = count;
-    while 0 < left {
+    for _ in 0..count {
         at = at + 2 + code[at + 1] as usize;
-        left -= 1;
     }
     at
 }

@@ -10,25 +10,18 @@ pub mod limit; // how many of each
 use documents::Refusal;
 use documents::op::{PUSHI, fixed_words};
 
-// A place in the code.
-#[derive(Drop)]
-pub enum Place {
-    At(usize),
-    Refused(Refusal),
-}
-
 // Where the fixed words of the instruction at a place end, if they stand before `end`.
-pub fn fetch(code: &[u32], at: usize, end: usize) -> Place
+pub fn fetch(code: &[u32], at: usize, end: usize) -> Result<usize, Refusal>
     requires { (at < end) × (end ≤ length code.now) }
     ensures { result ≡ fetched code.now at end }
 {
     let op = code[at];
     if PUSHI < op {
-        return Place::Refused(Refusal::DoesNotPass);
+        return Err(Refusal::DoesNotPass);
     }
     let words = fixed_words(op as usize) as usize;
     if end - at - 1 < words {
-        return Place::Refused(Refusal::DoesNotPass);
+        return Err(Refusal::DoesNotPass);
     }
-    Place::At(at + 1 + words)
+    Ok(at + 1 + words)
 }

@@ -1,16 +1,12 @@
-use mathlib.Core.Path.{refl, sym, ◌∙◌}
-use native.Mathlib.Omega.{arith}
+use Rattle.std.proofs.Common.{sym, ◌∙◌, arith}
 use Rattle.indices.proofs.Gathering.{gathered_next, gathered_all, small_next}
 use Rattle.indices.proofs.gather.Goals as goal
 
-pub loop-i-init : goal.loop-i-init
-loop-i-init c = (refl, omega arith, c.requires)
-
 pub insert-set-requires : goal.insert-set-requires
-insert-set-requires c = (small_next _ _ c.loop-i-test.true c.loop-i.invariant.2).0
+insert-set-requires c = (small_next c.args.list.now c.loop-index.index-index (omega arith) c.loop-index.invariant.1).0
 
-pub loop-i-preserved : goal.loop-i-preserved
-loop-i-preserved c = (c.loop-i.invariant.0 ∙ gathered_next _ _ _ _ c.loop-i-test.true c.insert-set.ensures, omega arith, (small_next _ _ c.loop-i-test.true c.loop-i.invariant.2).1)
+pub loop-index-preserved : goal.loop-index-preserved
+loop-index-preserved c = (c.loop-index.invariant.0 ∙ gathered_next c.args.list.now c.loop-index.index-index _ _ (omega arith) c.insert-set.ensures, (small_next c.args.list.now c.loop-index.index-index (omega arith) c.loop-index.invariant.1).1)
 
 pub returns : goal.returns
-returns c = sym (c.loop-i.invariant.0 ∙ gathered_all c.args.list.now c.loop-i.i _ (omega arith))
+returns c = sym (c.loop-index.invariant.0 ∙ gathered_all c.args.list.now c.loop-index.index-index _ (omega arith))
