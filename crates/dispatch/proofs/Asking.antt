@@ -8,6 +8,7 @@ use mathlib.Core.Option.{Option, some}
 use mathlib.Core.List.{List, [], ◌∷◌, ◌++◌}
 use lib.Dec.{T, eqb, leb, ltb}
 use lib.ListN.{length, get_or}
+use Rattle.std.specs.Prelude as program
 use borrow.Author.Tests.{eqb-true, leb-true, lt-ltb, le-ltb, lt-leb, le-leb, ne_eqb}
 use Rattle.documents.specs.Limits.{argument_limit, index_limit}
 use Rattle.documents.specs.Lists.{need}
@@ -18,7 +19,7 @@ use Rattle.documents.specs.Machine.{Current, current, Entry, State, state, fails
 use Rattle.documents.specs.Passing.{Matching, matching, times, and_then_holds, parts, obeys, current_limit}
 use Rattle.documents.proofs.Lists.{both_true}
 use Rattle.documents.proofs.Nodes.{nodes_positive, subterm_root, subterm_first}
-use Rattle.dispatch.specs.Buckets.{bucket_of, root_word, root_count, asked_at, asked_behind}
+use Rattle.dispatch.specs.Buckets.{bucket_of, root_word, root_count, asked_at, asked_behind, Asked}
 use Rattle.dispatch.specs.Admitted.{Readable}
 
 -- ---- Buckets
@@ -49,11 +50,11 @@ module _ (word count : ℕ) where
 
 module _ (code : List ℕ) (at : ℕ) where
   pub asked_is : {r : ℕ} → get_or code at 0 ≡ 0 → (r ≡ bucket_of (65536 + get_or code (at + 1) 0) (get_or code (at + 2) 0)) × (r < 258)
-      → (r ≡ asked_at code at) × (r ≤ 258)
+      → (r ≡ asked_at code at) × (r < 258)
   unfolding asked_at
-  asked_is o e = (e.0 ∙ rw o, omega (arith, e.1))
+  asked_is o e = (e.0 ∙ rw o, e.1)
 
-  pub asked_isabst : get_or code at 0 ≡ 1 → (256 ≡ asked_at code at) × (256 ≤ 258)
+  pub asked_isabst : get_or code at 0 ≡ 1 → (256 ≡ asked_at code at) × (256 < 258)
   unfolding asked_at
   asked_isabst o = (rw o, omega arith)
 
@@ -176,9 +177,9 @@ behind_is : (s n : ℕ) (ws : List ℕ) → asked_behind (0 ∷ s ∷ n ∷ ws) 
 unfolding asked_behind asked_at
 behind_is s n ws = refl
 
-pub behind_first : {r : ℕ} (code : List ℕ) → get_or code 0 0 ≡ 0 → (r ≡ asked_at code 3) × (r ≤ 258) → (r ≡ asked_behind code) × (r ≤ 258)
+pub behind_first : (r : program.Option ℕ) (code : List ℕ) → get_or code 0 0 ≡ 0 → Asked r (asked_at code 3) → Asked r (asked_behind code)
 unfolding asked_behind
-behind_first code o e = (e.0 ∙ rw o, e.1)
+behind_first r code o e = (e.0 ∙ rw o, e.1)
 
 pub behind_none : (code : List ℕ) → (get_or code 0 0 ≡ 0 → ⊥) → asked_behind code ≡ 258
 unfolding asked_behind

@@ -39,11 +39,11 @@ module _ {old : List ℕ} {rule : ℕ} {masks : List ℕ} {i : ℕ} (p : Enterin
       let l : length masks ≤ i = omega (arith, p.long) in
       sym (append-nil masks) ∙ (rw (take_all i masks l, drop_of_length-le masks l) at p.rest)
 
-module _ {asked : ℕ} (masks : List ℕ) (rule : ℕ) where
-  pub all_admitted : {after : List ℕ} → asked ≡ 258 → after ≡ everywhere masks rule → after ≡ admitted asked masks rule
+module _ (masks : List ℕ) (rule : ℕ) where
+  pub all_admitted : {after : List ℕ} → after ≡ everywhere masks rule → after ≡ admitted 258 masks rule
   unfolding admitted
-  all_admitted a e = e ∙ rw a
+  all_admitted e = e
 
-  pub one_admitted : {s : ℕ} → (asked ≡ 258 → ⊥) → s ≡ inserted (get_or masks asked 0) rule → set masks asked s ≡ admitted asked masks rule
+  pub one_admitted : {b s : ℕ} → b < 258 → s ≡ inserted (get_or masks b 0) rule → set masks b s ≡ admitted b masks rule
   unfolding admitted
-  one_admitted a e = rw (e, ne_eqb asked 258 a)
+  one_admitted {b} h e = rw (e, ne_eqb b 258 (λ z. omega arith))

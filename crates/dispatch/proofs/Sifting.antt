@@ -10,8 +10,8 @@ use mathlib.Core.List.{List, [], ◌∷◌, map}
 use lib.Dec.{eqb, ltb}
 use lib.ListN.{length, get_or, get_elem?, set, replicate, length-map, length-set, length-replicate, get_or-eq_default}
 use lib.Seq.{get_or-set_same, get_or-set_other}
-use lib.Bits.{bit_or, or_lt}
-use lib.Pow.{pow_pos, pow-lt, shl_exact}
+use lib.Bits.{or_lt}
+use lib.Pow.{pow_pos, pow-lt}
 use borrow.Author.Tests.{eq-eqb, eqb-true, eqb-false, ltb-true, ltb-false}
 use Rattle.documents.specs.Instructions.{Program, words}
 use Rattle.documents.proofs.Lists.{never, on, off, case}
@@ -27,10 +27,10 @@ use Rattle.dispatch.proofs.Asking.{bucket_low, root_readable, behind_readable, r
 
 -- ---- One rule more in a set
 
--- one bit, shifted within 32
-pub insert_is : (m k : ℕ) → k < 32 → bit_or m (1 * 2 ^ k % 2 ^ 32) ≡ inserted m k
+-- 32 bits hold it
+pub inserted_fits : (m k : ℕ) → m < 2 ^ 32 → k < 32 → inserted m k < 2 ^ 32
 unfolding inserted
-insert_is m k h = let e : 1 * 2 ^ k % 2 ^ 32 ≡ 2 ^ k = shl_exact 1 k 32 (omega arith) (omega arith) ∙ omega arith in rw e
+inserted_fits m k l h = or_lt 32 m (2 ^ k) l (pow-lt h)
 
 inserted_low : (m k : ℕ) → m < 2 ^ k → inserted m k < 2 ^ (k + 1)
 unfolding inserted

@@ -1,5 +1,5 @@
 -- Buckets of nodes, told from a node's two words, and which bucket an instruction asks for.
-use Rattle.std.specs.Prelude.{ℕ, ◌+◌, ◌*◌, ◌/◌, ◌%◌, cond, List, eqb, leb, ltb, get_or}
+use Rattle.std.specs.Prelude.{◌≡◌, ℕ, ◌+◌, ◌*◌, ◌/◌, ◌%◌, ◌<◌, cond, List, Option, Some, None, IfSome, eqb, leb, ltb, get_or}
 use Rattle.documents.specs.Terms.{Term}
 use Rattle.documents.specs.Tables.{table_of}
 use Rattle.documents.specs.Instructions.{op_is, op_isabst}
@@ -22,3 +22,12 @@ asked_at code at = cond (eqb (get_or code at 0) op_is) (bucket_of (65536 + get_o
 -- .. and the node behind the root: an IS goes on to the first argument
 unfoldable pub asked_behind : List ℕ → ℕ
 asked_behind code = cond (eqb (get_or code 0 0) op_is) (asked_at code 3) 258
+
+-- a bucket that is asked for, or any, as that number
+abbrev pub asked_number : Option ℕ → ℕ
+asked_number (Some b) = b
+asked_number None = 258
+
+-- what an instruction asks for, told from its number
+abbrev pub Asked : Option ℕ → ℕ → Type 0
+Asked o n = (asked_number o ≡ n) × IfSome o (λ b. b < 258)

@@ -3,7 +3,8 @@
 // words from 1 on, the root first.
 #![tactic(auto)]
 
-ghost use Rattle.std.specs.Prelude.{◌≡◌, ◌≤◌, ◌<◌, ◌/◌};
+ghost use Rattle.std.specs.Prelude.{◌≡◌, ◌==◌, ◌≤◌, ◌<◌, ◌/◌, ◌%◌};
+ghost use Rattle.std.specs.List.{suffix_len};
 ghost use Rattle.documents.specs.Tables.{nodes};
 ghost use Rattle.tables.specs.Parts.{front};
 ghost use Rattle.levels.specs.Levels.{Above};
@@ -22,20 +23,39 @@ pub fn node_of(word: u32) -> usize
     (word / TERMS) as usize
 }
 
-// From one node on to a later one: gives its level.
-pub fn go(plan: &[u32], from: usize, to: usize, above: &mut [u32; LEVELS], level: usize) -> usize
-    requires { Above plan.now from above.old level × (from ≤ to) × (to < nodes (front plan.now)) }
-    ensures { Above plan.now to above.new result }
-{
-    let mut node = from;
-    let mut here = level;
-    while node < to {
-        above[here - 1] -= 1;
-        above[here] = node as u32 * TERMS + plan[2 * node + 1];
-        here = owing(above, here + 1);
-        node += 1;
+// The words, and how many of them stand above the node at hand, which is its level.
+#[derive(Drop)]
+pub struct Levels {
+    pub words: [u32; LEVELS],
+    pub level: usize,
+}
+
+impl Levels {
+    // From one node on to a later one.
+    pub fn go(&mut self, plan: &[u32], from: usize, to: usize)
+        requires { Above plan.now from self.old.words self.old.level × (from ≤ to) × (to < nodes (front plan.now)) }
+        ensures { Above plan.now to self.new.words self.new.level }
+    {
+        let above = &mut self.words;
+        let mut here = self.level;
+        for node in from..to {
+            above[here - 1] -= 1;
+            above[here] = node as u32 * TERMS + plan[2 * node + 1];
+            here = owing(above, here + 1);
+        }
+        self.level = here;
     }
-    here
+}
+
+// How many words at the end owe nothing any more.
+fn done(above: &[u32]) -> usize
+    ensures { result ≡ suffix_len (λ word. word % 16 == 0) above.now }
+{
+    above
+        .iter()
+        .rev()
+        .take_while(|word| **word % TERMS == 0)
+        .count()
 }
 
 // Words at the end that owe nothing any more are done.
@@ -43,9 +63,5 @@ fn owing(above: &[u32; LEVELS], level: usize) -> usize
     requires { Owes above.now level }
     ensures { result ≡ owing_from above.now level }
 {
-    let mut here = level;
-    while above[here - 1] % TERMS == 0 {
-        here -= 1;
-    }
-    here
+    level - done(&above[..level])
 }

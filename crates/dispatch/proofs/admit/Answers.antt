@@ -2,8 +2,8 @@
 use Rattle.dispatch.proofs.Entering.{all_admitted, one_admitted}
 use Rattle.dispatch.proofs.admit.Goals as goal
 
-pub returns-then-asked-eq-ANYTHING : goal.returns-then-asked-eq-ANYTHING
-returns-then-asked-eq-ANYTHING c = all_admitted _ _ c.if-asked-eq-ANYTHING.true c.admit_everywhere.ensures
+pub returns-in-Some : goal.returns-in-Some
+returns-in-Some c = rw c.in-Some.is (one_admitted c.args.masks.now c.args.rule (rw c.in-Some.is at c.requires.0) c.with_rule.ensures)
 
-pub returns : goal.returns
-returns c = one_admitted c.args.masks.now _ c.if-asked-eq-ANYTHING.false c.insert.ensures
+pub returns-in-None : goal.returns-in-None
+returns-in-None c = rw c.in-None.is (all_admitted c.args.masks.now c.args.rule c.admit_everywhere.ensures)

@@ -1,7 +1,7 @@
 -- `dispatch::candidates`: the words at a place are the root's of the term that begins there, and those behind them its first argument's, if it has one.
 use Rattle.dispatch.proofs.Behind.{root_inside, root_narrow, behind_narrow, candidates_none, candidates_root, candidates_both}
 use borrow.Author.Rules.{rules}
-use Rattle.dispatch.proofs.candidates.Goals as goal
+use Rattle.dispatch.proofs.Buckets.candidates.Goals as goal
 
 pub offset_bounds-plan-at : goal.offset_bounds-plan-at
 offset_bounds-plan-at c = let p = root_inside c.args.plan.now c.args.at c.requires in search rules

@@ -1,10 +1,10 @@
 use native.Mathlib.Omega.{arith}
 use borrow.Author.Rules.{rules}
 use Rattle.levels.proofs.Going.{above_bounds, turned_owes, above_next, arrived}
-use Rattle.levels.proofs.go.Goals as goal
+use Rattle.levels.proofs.Levels.go.Goals as goal
 
 pub loop-node-init : goal.loop-node-init
-loop-node-init c = c.requires
+loop-node-init c = (c.requires.0, c.requires.2)
 
 pub overflow_sub-above : goal.overflow_sub-above
 overflow_sub-above c = let b = above_bounds c.loop-node.invariant.0 in search rules
@@ -55,7 +55,7 @@ pub owing-here-requires : goal.owing-here-requires
 owing-here-requires c = turned_owes c.loop-node.invariant.0 (omega arith)
 
 pub loop-node-preserved : goal.loop-node-preserved
-loop-node-preserved c = let i = c.loop-node.invariant in (above_next i.0 (omega arith) _ c.owing-here.ensures, search rules, i.2)
+loop-node-preserved c = let i = c.loop-node.invariant in (above_next i.0 (omega arith) _ c.owing-here.ensures, i.1)
 
 pub returns : goal.returns
-returns c = let i = c.loop-node.invariant in arrived i.0 i.1 (omega arith)
+returns c = arrived c.loop-node.invariant.0 (omega arith) (omega arith)
