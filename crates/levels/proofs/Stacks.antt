@@ -13,7 +13,7 @@ use Rattle.std.proofs.lemmas.List.{reverse-append}
 use borrow.Author.Tests.{eqb-true, eqb-false, eq-eqb, ne_eqb}
 use Rattle.documents.proofs.Lists.{never}
 use Rattle.levels.specs.Levels.{Level, level, begun, word_of, stacked}
-use Rattle.levels.specs.Owing.{owing_from, Owes}
+use Rattle.levels.specs.Owing.{owing_from}
 use Rattle.levels.proofs.Next.{Owed, unended}
 use Rattle.levels.proofs.Spines.{Low, node_of, again, Backs}
 

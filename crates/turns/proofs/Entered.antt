@@ -5,6 +5,7 @@ use native.Mathlib.Numerals.{add-one}
 use native.Mathlib.Omega.{arith}
 use mathlib.Core.Bool.{false, cond}
 use mathlib.Core.Option.{none, some}
+use Rattle.std.specs.Prelude.{Option, Some, None}
 use mathlib.Core.List.{List, ◌∷◌}
 use lib.Dec.{eqb, ltb}
 use lib.ListN.{length, get_or, get_elem?, set}
@@ -14,9 +15,8 @@ use Rattle.documents.specs.Passing.{slot}
 use Rattle.documents.proofs.Lists.{never, case, on, off}
 use Rattle.indices.specs.Sets.{members}
 use Rattle.turns.specs.declared.entries.Entries.{Entries}
-use Rattle.turns.specs.declared.entries.Found.{Found}
-use Rattle.turns.specs.declared.entries.Found.TheVariants as found
-use Rattle.turns.specs.Held.{slots, entries_of, Sound, found_in, same_depth}
+use Rattle.turns.specs.declared.entries.Entry.{Entry}
+use Rattle.turns.specs.Held.{slots, entries_of, found_in, same_depth}
 
 -- ---- entries
 
@@ -55,39 +55,41 @@ slot_at (suc n) ds gs zero h = let e : suc n - 1 - 0 ≡ n = omega arith in rw e
 slot_at (suc n) ds gs (suc x) h = let e : suc n - 1 - suc x ≡ n - 1 - x = omega arith in slot_at n ds gs x (omega arith) ∙ rw e
 
 module _ (e : Entries) (x : ℕ) where
-  pub found_missing : e.count ≤ x → found.Missing ≡ found_in e x
+  abbrev at_place : Entry
+  at_place = record { depth = get_or e.depths (e.count - 1 - x) 0; guard = get_or e.guards (e.count - 1 - x) 0 }
+
+  pub found_missing : e.count ≤ x → None ≡ found_in e x
   unfolding found_in
   found_missing h = rw (le-ltb x e.count h)
 
-  pub found_entry : x < e.count → found.Entry (get_or e.depths (e.count - 1 - x) 0) (get_or e.guards (e.count - 1 - x) 0) ≡ found_in e x
+  pub found_entry : x < e.count → Some at_place ≡ found_in e x
   unfolding found_in
   found_entry h = rw (lt-ltb x e.count h)
 
   -- the slot that was found
-  pub found_none : found_in e x ≡ found.Missing → get_elem? (entries_of e) x ≡ none
+  pub found_none : found_in e x ≡ None → get_elem? (entries_of e) x ≡ none
   unfolding found_in
   found_none h =
-      case (λ b. cond b (found.Entry (get_or e.depths (e.count - 1 - x) 0) (get_or e.guards (e.count - 1 - x) 0)) found.Missing ≡ found.Missing → get_elem? (entries_of e) x ≡ none)
+      case (λ b. cond b (Some at_place) None ≡ None → get_elem? (entries_of e) x ≡ none)
       (ltb x e.count) (λ y p. never (cc)) (λ y p. slot_none e.count e.depths e.guards x (ltb-false x e.count (off _ y))) h
 
-  module _ (b g : ℕ) (h : found_in e x ≡ found.Entry b g) where
-    there : (x < e.count) × (b ≡ get_or e.depths (e.count - 1 - x) 0) × (g ≡ get_or e.guards (e.count - 1 - x) 0)
+  module _ (f : Entry) (h : found_in e x ≡ Some f) where
+    there : (x < e.count) × (f ≡ at_place)
     unfolding found_in
     there =
-        case (λ q. cond q (found.Entry (get_or e.depths (e.count - 1 - x) 0) (get_or e.guards (e.count - 1 - x) 0)) found.Missing ≡ found.Entry b g
-        → (x < e.count) × (b ≡ get_or e.depths (e.count - 1 - x) 0) × (g ≡ get_or e.guards (e.count - 1 - x) 0))
-        (ltb x e.count) (λ y p. (ltb-true x e.count (on _ y), (cc), (cc))) (λ y p. never (cc)) h
+        case (λ q. cond q (Some at_place) None ≡ Some f → (x < e.count) × (f ≡ at_place))
+        (ltb x e.count) (λ y p. let z : at_place ≡ f = cc in (ltb-true x e.count (on _ y), sym z)) (λ y p. never (cc)) h
 
-    pub found_slot : get_elem? (entries_of e) x ≡ some (slot b (members g))
-    found_slot = slot_at e.count e.depths e.guards x there.0 ∙ rw (sym there.1, sym there.2)
+    pub found_slot : get_elem? (entries_of e) x ≡ some (slot f.depth (members f.guard))
+    found_slot = slot_at e.count e.depths e.guards x there.0 ∙ ap (λ (g : Entry). some (slot g.depth (members g.guard))) (sym there.1)
 
-    pub found_low : Sound e → b ≤ 63
-    found_low s = rw there.1 (s.depths.low (e.count - 1 - x))
+    pub found_low : f.depth ≤ 63
+    found_low = let z : f.depth ≡ get_or e.depths (e.count - 1 - x) 0 = ap (λ (g : Entry). g.depth) there.1 in rw z (e.low (e.count - 1 - x))
 
-pub same_missing : (f : Found) (d : ℕ) → f ≡ found.Missing → false ≡ same_depth f d
+pub same_missing : (f : Option Entry) (d : ℕ) → f ≡ None → false ≡ same_depth f d
 unfolding same_depth
 same_missing f d e = rw e
 
-pub same_entry : (f : Found) (b g d : ℕ) → f ≡ found.Entry b g → eqb d b ≡ same_depth f d
+pub same_entry : (f : Option Entry) (g : Entry) (d : ℕ) → f ≡ Some g → eqb d g.depth ≡ same_depth f d
 unfolding same_depth
-same_entry f b g d e = rw e
+same_entry f g d e = rw e

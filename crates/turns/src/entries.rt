@@ -1,44 +1,71 @@
 // The entries that the match part makes.
-ghost use Rattle.std.specs.Prelude.{◌≡◌, ◌≤◌};
-ghost use Rattle.turns.specs.Held.{found_in, same_depth};
+ghost use Rattle.std.specs.Prelude.{◌≡◌, [], ◌∷◌, ℕ, ◌<◌, ◌≤◌, get_or};
+ghost use Rattle.documents.specs.Passing.{slot};
+ghost use Rattle.indices.specs.Sets.{members};
 
 use instructions::limit::MOST_ENTRIES;
 
-// The newest last: the depth b, and as guard the set of the indices that its CHECK lists.
+// The newest last: the depth b, and as guard the set of the indices that its CHECK lists. They go by value.
+// Kept (point 6): 01 wants the checker's state by value, with flat arrays of depths and guards (docs/PROMISES.md, last table).
 #[derive(Clone, Copy)]
 pub struct Entries {
     pub count: usize,
     pub depths: [u8; MOST_ENTRIES],
     pub guards: [u64; MOST_ENTRIES],
+    pub ghost few: { count ≤ 16 },
+    pub ghost low: { (i : ℕ) → get_or depths i 0 ≤ 63 },
 }
 
-// The depth and the guard.
-#[derive(Drop)]
-pub enum Found {
-    Entry(u32, u64),
-    Missing,
+#[derive(Clone, Copy)]
+pub struct Entry {
+    pub depth: u32,
+    pub guard: u64,
 }
 
-// An entry, counted from the newest.
-pub fn find(entries: Entries, x: u32) -> Found
-    requires { entries.count ≤ 16 }
-    ensures { result ≡ found_in entries x }
-{
-    let count = entries.count;
-    if count <= x as usize {
-        return Found::Missing;
+impl Entries {
+    ghost use Rattle.turns.specs.Held.{entries_of, found_in, same_depth};
+
+    pub fn new() -> Self
+        ensures { entries_of result ≡ [] }
+    {
+        Entries {
+            count: 0,
+            depths: [0; MOST_ENTRIES],
+            guards: [0; MOST_ENTRIES],
+        }
     }
-    let i = count - 1 - x as usize;
-    Found::Entry(entries.depths[i] as u32, entries.guards[i])
-}
 
-// Whether it is there, with this depth.
-pub fn has_depth(entries: Entries, x: u32, d: u32) -> bool
-    requires { entries.count ≤ 16 }
-    ensures { result ≡ same_depth (found_in entries x) d }
-{
-    let Found::Entry(b, _) = find(entries, x) else {
-        return false;
-    };
-    d == b
+    // The newest from now on.
+    pub fn enter(&mut self, depth: u8, guard: u64)
+        requires { (self.old.count < 16) × (depth ≤ 63) }
+        ensures { entries_of self.new ≡ slot depth (members guard) ∷ entries_of self.old }
+    {
+        self.depths[self.count] = depth;
+        self.guards[self.count] = guard;
+        self.count += 1;
+    }
+
+    // An entry, counted from the newest.
+    pub fn find(self, x: u32) -> Option<Entry>
+        ensures { result ≡ found_in self x }
+    {
+        if self.count <= x as usize {
+            return None;
+        }
+        let i = self.count - 1 - x as usize;
+        Some(Entry {
+            depth: u32::from(self.depths[i]),
+            guard: self.guards[i],
+        })
+    }
+
+    // Whether it is there, with this depth.
+    pub fn has_depth(self, x: u32, d: u32) -> bool
+        ensures { result ≡ same_depth (found_in self x) d }
+    {
+        match self.find(x) {
+            Some(entry) => d == entry.depth,
+            None => false,
+        }
+    }
 }

@@ -1,7 +1,6 @@
 -- `levels::owing`: what is left without the words at the end that owe nothing, which are no more than there are.
-use mathlib.Core.Path.{◌∙◌}
 use native.Mathlib.Omega.{arith}
-use lib.ListN.{length, take, length-take}
+use lib.ListN.{take, length-take}
 use lib.Dec.{eqb}
 use Prim.Native.Nat.{◌%◌, ℕ}
 use Rattle.std.specs.Prelude.{reverse}

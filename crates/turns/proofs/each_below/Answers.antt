@@ -1,13 +1,12 @@
-use mathlib.Core.Path.{sym, ◌∙◌}
-use native.Mathlib.Omega.{arith}
-use Rattle.turns.proofs.Turning.{below_not, below_next, below_all}
+-- `turns::each_below`: 01's test of each is the library's.
+use Rattle.std.proofs.Common.{rules, tests, ◌∙◌}
+use lib.Dec.{ltb}
+use Rattle.std.proofs.lemmas.Iterator.Search.{all_from_yields_List}
+use Rattle.std.proofs.lemmas.Iterator.{YieldsList-from_slice}
+use Rattle.turns.proofs.Turning.{every_all}
 use Rattle.turns.proofs.each_below.Goals as goal
 
-pub returns-then-d-list : goal.returns-then-d-list
-returns-then-d-list c = let s = c.args in sym (c.loop-i.invariant.0 ∙ below_not s.list.now c.loop-i.i s.d c.loop-i-test.true c.if-d-list.true)
-
-pub loop-i-preserved : goal.loop-i-preserved
-loop-i-preserved c = let s = c.args in (c.loop-i.invariant.0 ∙ below_next s.list.now c.loop-i.i s.d c.loop-i-test.true (omega arith), omega arith)
-
 pub returns : goal.returns
-returns c = let s = c.args in sym (c.loop-i.invariant.0 ∙ below_all s.list.now c.loop-i.i s.d (omega arith))
+returns c =
+    all_from_yields_List (λ x. ltb x c.args.d) _ _ _ c.all.ensures.ran (YieldsList-from_slice c.args.list.now (cc)) (λ x b q k. search (rules, tests))
+    ∙ every_all c.args.d c.args.list.now

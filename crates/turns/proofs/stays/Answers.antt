@@ -3,41 +3,49 @@ use mathlib.Core.Path.{sym, ◌∙◌}
 use native.Mathlib.Omega.{arith}
 use Rattle.turns.proofs.Turning.{fixed_of, stays_check, stays_full, stays_set, stays_high, stays_eqvar, stays_other, stays_eqimm, stays_eqi}
 use Rattle.turns.proofs.Entered.{entries_length}
-use borrow.Author.Rules.{rules}
+use borrow.Author.Tests.{ltb-true, ltb-false}
+use Prim.Native.Nat.{◌+◌}
+use lib.ListN.{get_or}
+use mathlib.Core.Path.{◌≡◌}
+use Rattle.turns.proofs.stays.Goals.{then-op-eq-SET, else-op-eq-SET+then-op-eq-EQVAR, else-op-eq-SET+else-op-eq-EQVAR}
 use Rattle.turns.proofs.stays.Goals as goal
-
-pub check_list-requires : goal.check_list-requires
-check_list-requires c = let s = c.args in let p = c.requires in let f = fixed_of s.code.now s.at 3 p.3 c.if-op-eq-CHECK.true in omega arith
 
 pub returns-then-op-eq-CHECK : goal.returns-then-op-eq-CHECK
 returns-then-op-eq-CHECK c = let s = c.args in let p = c.requires in stays_check _ _ _ _ _ c.if-op-eq-CHECK.true (fixed_of s.code.now s.at 3 p.3 c.if-op-eq-CHECK.true) p.4 c.check_list.ensures
 
-pub returns-then-entries-ge-MOST_ENTRIES : goal.returns-then-entries-ge-MOST_ENTRIES
-returns-then-entries-ge-MOST_ENTRIES c = let s = c.args in let p = c.requires in let k = entries_length s.entries in stays_full _ _ _ _ c.if-op-eq-SET.true (fixed_of s.code.now s.at 4 p.3 c.if-op-eq-SET.true) p.4 (omega arith)
+pub returns-then-op-eq-EQI : goal.returns-then-op-eq-EQI
+returns-then-op-eq-EQI c = let s = c.args in let p = c.requires in stays_eqi _ _ _ _ _ c.if-op-eq-EQI.true (fixed_of s.code.now s.at 7 p.3 c.if-op-eq-EQI.true) p.4 c.eqi.ensures
 
-pub returns-then-op-eq-SET : goal.returns-then-op-eq-SET
-returns-then-op-eq-SET c = let s = c.args in let p = c.requires in let k = entries_length s.entries in stays_set _ _ _ _ c.if-op-eq-SET.true (fixed_of s.code.now s.at 4 p.3 c.if-op-eq-SET.true) p.4 (omega arith)
-
-pub bounds-code-at-then-op-eq-EQVAR : goal.bounds-code-at-then-op-eq-EQVAR
-bounds-code-at-then-op-eq-EQVAR c = let s = c.args in let p = c.requires in let f = fixed_of s.code.now s.at 5 p.3 c.if-op-eq-EQVAR.true in search rules
-
-pub returns-then-d-code : goal.returns-then-d-code
-returns-then-d-code c = let s = c.args in let p = c.requires in stays_high _ _ _ _ c.if-op-eq-EQVAR.true (fixed_of s.code.now s.at 5 p.3 c.if-op-eq-EQVAR.true) p.4 c.if-d-code.true
-
-pub returns-then-op-eq-EQVAR : goal.returns-then-op-eq-EQVAR
-returns-then-op-eq-EQVAR c = let s = c.args in let p = c.requires in stays_eqvar _ _ _ _ c.if-op-eq-EQVAR.true (fixed_of s.code.now s.at 5 p.3 c.if-op-eq-EQVAR.true) p.4 (omega arith)
-
-pub bounds-code-at-then-op-eq-EQIMM : goal.bounds-code-at-then-op-eq-EQIMM
-bounds-code-at-then-op-eq-EQIMM c = let s = c.args in let p = c.requires in let f = fixed_of s.code.now s.at 6 p.3 c.if-op-eq-EQIMM.true in search rules
-
-pub returns-then-not-has_depth : goal.returns-then-not-has_depth
-returns-then-not-has_depth c = let s = c.args in let p = c.requires in stays_other _ _ _ _ c.if-op-eq-EQIMM.true (fixed_of s.code.now s.at 6 p.3 c.if-op-eq-EQIMM.true) p.4 (sym c.has_depth.ensures ∙ c.if-not-has_depth.true)
-
-pub returns-then-op-eq-EQIMM : goal.returns-then-op-eq-EQIMM
-returns-then-op-eq-EQIMM c = let s = c.args in let p = c.requires in stays_eqimm _ _ _ _ c.if-op-eq-EQIMM.true (fixed_of s.code.now s.at 6 p.3 c.if-op-eq-EQIMM.true) p.4 (sym c.has_depth.ensures ∙ c.if-not-has_depth.false)
-
-pub eqi-requires : goal.eqi-requires
-eqi-requires c = let s = c.args in let p = c.requires in let f = fixed_of s.code.now s.at 7 p.3 (omega arith) in (omega arith, p.5, p.6)
+pub returns-then-not-stands : goal.returns-then-not-stands
+returns-then-not-stands c =
+    let s = c.args in
+    let p = c.requires in
+    elim c.if-op-eq-SET.branch [
+      | then-op-eq-SET w ↦
+          let k = entries_length s.entries in
+          let h = ltb-false s.entries.count 16 (sym w.stands-is ∙ c.if-not-stands.true) in
+          stays_full _ _ _ _ w.if-op-eq-SET.true (fixed_of s.code.now s.at 4 p.3 w.if-op-eq-SET.true) p.4 (omega arith)
+      | else-op-eq-SET+then-op-eq-EQVAR w ↦
+          let h = ltb-false (get_or s.code.now (s.at + 1) 0) s.d (sym w.stands-is ∙ c.if-not-stands.true) in
+          stays_high _ _ _ _ w.if-op-eq-EQVAR.true (fixed_of s.code.now s.at 5 p.3 w.if-op-eq-EQVAR.true) p.4 (omega arith)
+      | else-op-eq-SET+else-op-eq-EQVAR w ↦
+          let o : get_or s.code.now s.at 0 ≡ 6 = omega (arith, w.if-op-eq-SET.false, w.if-op-eq-EQVAR.false) in
+          stays_other _ _ _ _ o (fixed_of s.code.now s.at 6 p.3 o) p.4 (sym w.has_depth.ensures ∙ sym w.stands-is ∙ c.if-not-stands.true)
+    ]
 
 pub returns : goal.returns
-returns c = let s = c.args in let p = c.requires in stays_eqi _ _ _ _ _ (omega arith) (fixed_of s.code.now s.at 7 p.3 (omega arith)) p.4 c.eqi.ensures
+returns c =
+    let s = c.args in
+    let p = c.requires in
+    elim c.if-op-eq-SET.branch [
+      | then-op-eq-SET w ↦
+          let k = entries_length s.entries in
+          let h = ltb-true s.entries.count 16 (sym w.stands-is ∙ c.if-not-stands.false) in
+          stays_set _ _ _ _ w.if-op-eq-SET.true (fixed_of s.code.now s.at 4 p.3 w.if-op-eq-SET.true) p.4 (omega arith)
+      | else-op-eq-SET+then-op-eq-EQVAR w ↦
+          let h = ltb-true (get_or s.code.now (s.at + 1) 0) s.d (sym w.stands-is ∙ c.if-not-stands.false) in
+          stays_eqvar _ _ _ _ w.if-op-eq-EQVAR.true (fixed_of s.code.now s.at 5 p.3 w.if-op-eq-EQVAR.true) p.4 h
+      | else-op-eq-SET+else-op-eq-EQVAR w ↦
+          let o : get_or s.code.now s.at 0 ≡ 6 = omega (arith, w.if-op-eq-SET.false, w.if-op-eq-EQVAR.false) in
+          stays_eqimm _ _ _ _ o (fixed_of s.code.now s.at 6 p.3 o) p.4 (sym w.has_depth.ensures ∙ sym w.stands-is ∙ c.if-not-stands.false)
+    ]
