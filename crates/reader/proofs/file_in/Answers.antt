@@ -7,36 +7,40 @@ use Rattle.reader.specs.Reader.{counts_of}
 use Rattle.reader.proofs.Sections.{count_there, no_left, no_version, no_right, no_subject, no_end, at_end}
 use Rattle.reader.proofs.file_in.Goals as goal
 
-pub returns-in_default : goal.returns-in_default
-returns-in_default c = ap counts_of (sym (no_left _ _ _ _ (sym c.count_in.ensures ∙ c.in_default.is)))
+pub returns-in_err-l : goal.returns-in_err-l
+returns-in_err-l c =
+    rw c.from_residual.ensures
+    (ap counts_of (sym (no_left _ _ _ _ (sym c.count_in.ensures ∙ c.in_err-l.was))))
 
 pub bounds-file-0 : goal.bounds-file-0
 bounds-file-0 c =
     let s = c.args in
-    omega (arith, count_there file_side_words s.left 1 s.file.now _ (sym c.count_in.ensures ∙ c.in-Words.is))
+    omega (arith, count_there file_side_words s.left 1 s.file.now _ (sym c.count_in.ensures ∙ c.in_ok-l.was))
 
 pub returns-then-file-ne-VERSION : goal.returns-then-file-ne-VERSION
-returns-then-file-ne-VERSION c = ap counts_of (sym (no_version _ _ _ _ _ (sym c.count_in.ensures ∙ c.in-Words.is) c.if-file-ne-VERSION.true))
+returns-then-file-ne-VERSION c = ap counts_of (sym (no_version _ _ _ _ _ (sym c.count_in.ensures ∙ c.in_ok-l.was) c.if-file-ne-VERSION.true))
 
-pub returns-in_default-count_in : goal.returns-in_default-count_in
-returns-in_default-count_in c =
-    ap counts_of (sym (no_right _ _ _ _ _ (sym c.count_in.ensures ∙ c.in-Words.is) c.if-file-ne-VERSION.false _ c.section_bytes-right_at.ensures
-    (sym c.count_in-2.ensures ∙ c.in_default-count_in.is)))
+pub returns-in_err-r : goal.returns-in_err-r
+returns-in_err-r c =
+    rw c.from_residual-in_err-r.ensures
+    (ap counts_of (sym (no_right _ _ _ _ _ (sym c.count_in.ensures ∙ c.in_ok-l.was) c.if-file-ne-VERSION.false _ c.section_bytes-right_at.ensures
+    (sym c.count_in-2.ensures ∙ c.in_err-r.was))))
 
-pub returns-in_default-count_in-2 : goal.returns-in_default-count_in-2
-returns-in_default-count_in-2 c =
-    ap counts_of (sym (no_subject _ _ _ _ _ (sym c.count_in.ensures ∙ c.in-Words.is) c.if-file-ne-VERSION.false _ c.section_bytes-right_at.ensures
-    _ (sym c.count_in-2.ensures ∙ c.in-Words-count_in.is) _ c.section_bytes.ensures
-    (sym c.count_in-3.ensures ∙ c.in_default-count_in-2.is)))
+pub returns-in_err-s : goal.returns-in_err-s
+returns-in_err-s c =
+    rw c.from_residual-in_err-s.ensures
+    (ap counts_of (sym (no_subject _ _ _ _ _ (sym c.count_in.ensures ∙ c.in_ok-l.was) c.if-file-ne-VERSION.false _ c.section_bytes-right_at.ensures
+    _ (sym c.count_in-2.ensures ∙ c.in_ok-r.was) _ c.section_bytes.ensures
+    (sym c.count_in-3.ensures ∙ c.in_err-s.was))))
 
 pub returns-then-file-subject_at : goal.returns-then-file-subject_at
 returns-then-file-subject_at c =
-    ap counts_of (sym (no_end _ _ _ _ _ (sym c.count_in.ensures ∙ c.in-Words.is) c.if-file-ne-VERSION.false _ c.section_bytes-right_at.ensures
-    _ (sym c.count_in-2.ensures ∙ c.in-Words-count_in.is) _ c.section_bytes.ensures
-    _ (sym c.count_in-3.ensures ∙ c.in-Words-count_in-2.is) _ c.section_bytes-2.ensures (λ e. omega arith)))
+    ap counts_of (sym (no_end _ _ _ _ _ (sym c.count_in.ensures ∙ c.in_ok-l.was) c.if-file-ne-VERSION.false _ c.section_bytes-right_at.ensures
+    _ (sym c.count_in-2.ensures ∙ c.in_ok-r.was) _ c.section_bytes.ensures
+    _ (sym c.count_in-3.ensures ∙ c.in_ok-s.was) _ c.section_bytes-2.ensures (λ e. omega arith)))
 
 pub returns : goal.returns
 returns c =
-    sym (at_end _ _ _ _ _ (sym c.count_in.ensures ∙ c.in-Words.is) c.if-file-ne-VERSION.false _ c.section_bytes-right_at.ensures
-    _ (sym c.count_in-2.ensures ∙ c.in-Words-count_in.is) _ c.section_bytes.ensures
-    _ (sym c.count_in-3.ensures ∙ c.in-Words-count_in-2.is) _ c.section_bytes-2.ensures c.if-file-subject_at.false)
+    sym (at_end _ _ _ _ _ (sym c.count_in.ensures ∙ c.in_ok-l.was) c.if-file-ne-VERSION.false _ c.section_bytes-right_at.ensures
+    _ (sym c.count_in-2.ensures ∙ c.in_ok-r.was) _ c.section_bytes.ensures
+    _ (sym c.count_in-3.ensures ∙ c.in_ok-s.was) _ c.section_bytes-2.ensures c.if-file-subject_at.false)
