@@ -1,60 +1,28 @@
 -- Keys that are looked for: one by one, or first those with a bit 0 among those with a bit 0, and then the others among the others.
 use mathlib.Core.Path.{◌≡◌, refl, sym, ap, ◌∙◌}
-use Prim.Native.Nat.{ℕ, ◌+◌, ◌-◌, ◌≤◌, ◌<◌}
+use Prim.Native.Nat.{ℕ, ◌-◌, ◌≤◌}
 use native.Mathlib.Omega.{arith}
 use mathlib.Core.Bool.{Bool, true, false, not, ◌&&◌, ◌||◌, or-true}
 use mathlib.Core.List.{List, [], ◌∷◌, ◌++◌}
 use lib.Dec.{eqb}
-use lib.ListN.{length, take, drop, get_or, length-append, take-append-drop, drop_of_length-le}
+use lib.ListN.{length, take, drop, length-append, take-append-drop}
 use lib.Seq.{drop_at, take_all, length-take-le}
-use borrow.Author.Tests.{eqb-true, eq-eqb, ne_eqb, not-true}
+use borrow.Author.Tests.{eqb-true, eq-eqb, not-true}
+use Rattle.std.specs.List.{list_all, list_any}
 use Rattle.documents.specs.Lists.{every, member}
-use Rattle.documents.proofs.Lists.{never, on, T_of, of_and, and_of, case, at_cons, member_append}
+use Rattle.documents.proofs.Lists.{never, on, T_of, of_and, and_of, case, member_append}
 use Rattle.keys.specs.Keys.{is_low, Parted}
 
 -- ---- One by one
 
--- whether a key is among those still to be looked at is what was asked of all
-pub record Looking (keys : List ℕ) (key at : ℕ) : Type 0 where
-  pub same : member (drop at keys) key ≡ member keys key
+sought : (l : List ℕ) (k : ℕ) → list_any (λ x. eqb x k) l ≡ member l k
+sought [] k = refl
+sought (v ∷ l) k = ap (λ q. eqb v k || q) (sought l k)
 
-pub looking_from : {keys : List ℕ} {key : ℕ} → Looking keys key 0
-looking_from = record { same = refl }
-
-module _ {l : List ℕ} {k at : ℕ} (i : Looking l k at) where
-  pub looking_ended : length l ≤ at → false ≡ member l k
-  looking_ended h = ap (λ (d : List ℕ). member d k) (sym (drop_of_length-le l h)) ∙ i.same
-
-  module _ (h : at < length l) where
-    looked : (q : Bool) → eqb (get_or l at 0) k ≡ q → q || member (drop (at + 1) l) k ≡ member l k
-    looked q e = sym (ap (λ (d : List ℕ). member d k) (at_cons l at h) ∙ ap (λ (q : Bool). q || member (drop (at + 1) l) k) e) ∙ i.same
-
-    pub looking_found : get_or l at 0 ≡ k → true ≡ member l k
-    looking_found e = looked true (eq-eqb (get_or l at 0) k e)
-
-    pub looking_on : (get_or l at 0 ≡ k → ⊥) → Looking l k (at + 1)
-    looking_on e = record { same = looked false (ne_eqb (get_or l at 0) k e) }
-
--- whether those still to be asked for are among others is what was asked of all
-pub record Asking (left right : List ℕ) (at : ℕ) : Type 0 where
-  pub same : every (member left) (drop at right) ≡ every (member left) right
-
-pub asking_from : {left right : List ℕ} → Asking left right 0
-asking_from = record { same = refl }
-
-module _ {left right : List ℕ} {at : ℕ} (i : Asking left right at) where
-  pub asking_ended : length right ≤ at → true ≡ every (member left) right
-  asking_ended h = ap (every (member left)) (sym (drop_of_length-le right h)) ∙ i.same
-
-  module _ (h : at < length right) where
-    asked : (q : Bool) → member left (get_or right at 0) ≡ q → q && every (member left) (drop (at + 1) right) ≡ every (member left) right
-    asked q e = sym (ap (every (member left)) (at_cons right at h) ∙ ap (λ (q : Bool). q && every (member left) (drop (at + 1) right)) e) ∙ i.same
-
-    pub asking_missing : member left (get_or right at 0) ≡ false → false ≡ every (member left) right
-    asking_missing e = asked false e
-
-    pub asking_on : member left (get_or right at 0) ≡ true → Asking left right (at + 1)
-    asking_on e = record { same = asked true e }
+-- the library's tests of a list, and 004's
+pub each_sought : (left right : List ℕ) → list_all (λ k. list_any (λ x. eqb x k) left) right ≡ every (member left) right
+each_sought left [] = refl
+each_sought left (k ∷ right) = rw (sought left k, each_sought left right) refl
 
 -- ---- Tests of all
 
@@ -138,8 +106,8 @@ module _ {place : ℕ} {left left' right right' : List ℕ} {l r : ℕ} (p : Par
           (T_of _ (every_of (member (drop l left')) (drop r right') (λ k m.
           in_rest p k (not-true _ (every_at (λ k. not (is_low place k)) (drop r right') k q.highs m)) (every_at (member left) right k h (rest_in q k m))))))
 
-  pub parted_missing : every (member (take l left')) (take r right') ≡ false → false ≡ every (member left) right
-  parted_missing e = sym (ap (λ (b : Bool). b && every (member (drop l left')) (drop r right')) e) ∙ parted_same
+  pub parted_missing : {x : Bool} → x ≡ every (member (take l left')) (take r right') → x ≡ false → x ≡ every (member left) right
+  parted_missing is e = e ∙ sym (ap (λ (b : Bool). b && every (member (drop l left')) (drop r right')) (sym is ∙ e)) ∙ parted_same
 
   -- the answer for what stands behind the first ones, whatever those were made, is that for all if each of those was found
   pub parted_behind : (lefts rights : List ℕ) → length lefts ≡ length (take l left') → length rights ≡ length (take r right') → {x : Bool}

@@ -64,21 +64,17 @@ fn put_keys(part: &[u32], keys: &mut [u32]) -> usize
 fn all_among(right: &mut [u32], left: &mut [u32], place: u32) -> bool
     ensures { result ≡ every (member left.old) right.old }
 {
-    if right.len() <= FEW {
-        return each_among(right, left);
-    }
-    if KEY_BITS <= place {
+    if right.len() <= FEW || KEY_BITS <= place {
         return each_among(right, left);
     }
     let asked = part(right, place);
     let known = part(left, place);
-    if all_among(&mut right[..asked], &mut left[..known], place + 1) {
-        return all_among(&mut right[asked..], &mut left[known..], place + 1);
-    }
-    false
+    all_among(&mut right[..asked], &mut left[..known], place + 1)
+        && all_among(&mut right[asked..], &mut left[known..], place + 1)
 }
 
 // Brings those keys to the front whose bit at a place is 0, and says how many there are.
+// Kept (point 3): `low` and `high` approach each other and only one of them moves in a turn, which no `for` says; the library parts no slice.
 fn part(keys: &mut [u32], place: u32) -> usize
     requires { place < 20 }
     ensures { Parted place keys.old keys.new result }
@@ -86,14 +82,12 @@ fn part(keys: &mut [u32], place: u32) -> usize
     let mut low: usize = 0;
     let mut high = keys.len();
     while low < high {
-        let key = keys[low];
-        if (key >> place) % 2 == 0 {
+        if (keys[low] >> place) % 2 == 0 {
             low += 1;
             continue;
         }
         high -= 1;
-        keys[low] = keys[high];
-        keys[high] = key;
+        keys.swap(low, high);
     }
     low
 }
@@ -102,25 +96,5 @@ fn part(keys: &mut [u32], place: u32) -> usize
 fn each_among(right: &[u32], left: &[u32]) -> bool
     ensures { result ≡ every (member left.now) right.now }
 {
-    let mut at: usize = 0;
-    while at < right.len() {
-        if !is_among(left, right[at]) {
-            return false;
-        }
-        at += 1;
-    }
-    true
-}
-
-fn is_among(keys: &[u32], key: u32) -> bool
-    ensures { result ≡ member keys.now key }
-{
-    let mut at: usize = 0;
-    while at < keys.len() {
-        if keys[at] == key {
-            return true;
-        }
-        at += 1;
-    }
-    false
+    right.iter().all(|key| left.contains(key))
 }

@@ -11,5 +11,5 @@ slice_bounds-all_among-end-4 t c = first_count c.part-known.ensures
 pub returns-then-all_among : goal.returns-then-all_among
 returns-then-all_among t c = parted_behind c.part-known.ensures c.part-asked.ensures c.all_among.new.left c.all_among.new.right c.left-2-1.given.0 c.right-2-1.given.0 (sym c.all_among.ensures ∙ c.if-all_among.true) c.all_among-then-all_among.ensures
 
-pub returns : goal.returns
-returns t c = parted_missing c.part-known.ensures c.part-asked.ensures (sym c.all_among.ensures ∙ c.if-all_among.false)
+pub returns-else-all_among : goal.returns-else-all_among
+returns-else-all_among t c = parted_missing c.part-known.ensures c.part-asked.ensures c.all_among.ensures c.if-all_among.false
