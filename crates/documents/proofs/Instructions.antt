@@ -12,7 +12,7 @@ use lib.Seq.{take_at, drop_at, take-append_seam, length-take-le, take-add, drop-
 use borrow.Author.Tests.{le-leb, leb-true}
 use Rattle.documents.specs.Lists.{need}
 use Rattle.documents.specs.Instructions.{Piece, instruction, program, bodies, Code, IS, ISABST, NEXT, CHECK, SET, EQVAR, EQIMM, EQI, CELL, LAMBDA, ADBMAL, PUSHVAR, PUSHIMM, PUSHI, End, ◌▸◌, None, Body, Instruction, Program, Bodies, fixed_after, body_count, pair_words, words, pairs_in, Read, whole, plain_in, before, ReadBodies, whole_bodies, plain_then, bodies_then, body_then, program_from, bodies_from, program_in}
-use Rattle.documents.proofs.Lists.{never, needed, branch}
+use Rattle.documents.proofs.Lists.{chunk_two, never, needed, branch}
 
 -- passing over words
 pub program_pass : (ws : List ℕ) (k n : ℕ) → program_from ws k n ≡ program_from (drop k ws) 0 n
@@ -344,10 +344,7 @@ words_program_in ws c e = program_words ws 0 (length ws) c (omega arith) e ∙ t
 
 -- a chunk of two words is a pair, and fewer words are none
 pub pairs_chunk : (x r : List ℕ) → length x ≡ 2 → pairs_in (x ++ r) ≡ (get_or x 0 0, get_or x 1 0) ∷ pairs_in r
-pairs_chunk [] r h = absurd (omega arith)
-pairs_chunk (a ∷ []) r h = absurd (omega arith)
-pairs_chunk (a ∷ b ∷ []) r h = refl
-pairs_chunk (a ∷ b ∷ c ∷ l) r h = absurd (omega arith)
+pairs_chunk x r h = ap pairs_in (chunk_two x r h)
 
 pub pairs_short : (r : List ℕ) → length r < 2 → pairs_in r ≡ []
 pairs_short [] h = refl

@@ -102,3 +102,10 @@ sets_append d at [] vs = rw add-zero
 sets_append d at (u ∷ us) vs =
     let e : at + suc (length us) ≡ suc at + length us = omega arith in
     rw e (sets_append (set d at u) (suc at) us vs)
+
+-- a chunk of two words stands before what is behind it
+pub chunk_two : (x r : List ℕ) → length x ≡ 2 → x ++ r ≡ get_or x 0 0 ∷ get_or x 1 0 ∷ r
+chunk_two [] r h = absurd (omega arith)
+chunk_two (a ∷ []) r h = absurd (omega arith)
+chunk_two (a ∷ b ∷ []) r h = refl
+chunk_two (a ∷ b ∷ c ∷ l) r h = absurd (omega arith)

@@ -19,14 +19,13 @@ use Rattle.documents.specs.Tables.{kind_of, grab, abstract, node, terms_in, sing
 use Rattle.documents.specs.declared.Refusal.{Refusal}
 use Rattle.documents.specs.Rules.{metas}
 use Rattle.documents.specs.Numbers.{Answer, answered, refused, unless, or_refuse, with, table_in, subject_in}
-use Rattle.documents.proofs.Lists.{never, on, T_of, of_and, and_then_is}
+use Rattle.documents.proofs.Lists.{chunk_two, never, on, T_of, of_and, and_then_is}
 use Rattle.documents.proofs.Lists.{leb_max}
 use Rattle.documents.proofs.Nodes.{depth_positive}
 use Rattle.documents.proofs.Tables.{before, table_of_term_in, length_table_of, terms_in_table_of, terms_in_tables_of, subterm_place}
 use Rattle.documents.proofs.Numbers.{table_in_held, subject_in_held}
 use Rattle.tables.specs.Parts.{held, first_terms, terms, front, Begins, word_count}
-use Rattle.tables.specs.declared.accept.Sized.{Sized}
-use Rattle.tables.specs.declared.accept.Sized.TheVariants.{Nodes, Refused}
+use Rattle.std.specs.Prelude.{Result, Ok, Err}
 use Rattle.tables.specs.Answers.{sized, is_there, is_good, fits_kind, in_layout}
 use Rattle.tables.proofs.Parts.{join, only, headed, Shape, Opened, opened, first_before, two, front_term, begins_less}
 use Rattle.tables.proofs.Walks.{Walk, walk_from, walk_on}
@@ -194,6 +193,20 @@ module _ (t : List ℕ) (a : ℕ) where
       go [] e = refl
       go (w ∷ ws) e = absurd (omega arith)
 
+-- the same, by chunks of two words
+module _ (x r : List ℕ) (l : length x ≡ 2) where
+  pub chunk_length : length (x ++ r) ≡ 2 + length r
+  chunk_length = let e : length (x ++ r) ≡ suc (suc (length r)) = ap length (chunk_two x r l) in omega arith
+
+  pub chunk_node : (n : ℕ) → 0 < n → in_layout (get_or x 0 0) (get_or x 1 0) ≡ true → holds n (terms_in (x ++ r)) ≡ holds (n - 1 + get_or x 1 0) (terms_in r)
+  chunk_node n h e = rw (chunk_two x r l) (good_node (get_or x 0 0 ∷ get_or x 1 0 ∷ r) 0 n (omega arith) h e)
+
+  pub chunk_outside : (n : ℕ) → in_layout (get_or x 0 0) (get_or x 1 0) ≡ false → holds n (terms_in (x ++ r)) ≡ false
+  chunk_outside n e = rw (chunk_two x r l) (good_outside (get_or x 0 0 ∷ get_or x 1 0 ∷ r) 0 n (omega arith) e)
+
+  pub chunk_more : (n : ℕ) → n ≡ 0 → holds n (terms_in (x ++ r)) ≡ false
+  chunk_more n z = rw (chunk_two x r l) (good_more (get_or x 0 0 ∷ get_or x 1 0 ∷ r) 0 n (omega arith) z)
+
 -- ---- What a good table holds
 
 pub good_begins : (t : List ℕ) → is_good t ≡ true → Begins 1 t × (term_in t ≡ some (front t)) × (word_count (front t) ≡ length t)
@@ -350,16 +363,16 @@ module _ {table above : List ℕ} {level owed at : ℕ} (l : Levels table above 
 -- ---- The whole check
 
 module _ (limit : ℕ) (t : List ℕ) where
-  pub accept_long : 2 * limit < length t → sized (table_in limit t) ≡ Refused refusal.TooManyWords
+  pub accept_long : 2 * limit < length t → sized (table_in limit t) ≡ Err refusal.TooManyWords
   unfolding table_in
   accept_long h = rw (lt-leb (length t) (2 * limit) h) refl
 
-  pub accept_bad : length t ≤ 2 * limit → is_good t ≡ false → sized (table_in limit t) ≡ Refused refusal.TableNotGood
+  pub accept_bad : length t ≤ 2 * limit → is_good t ≡ false → sized (table_in limit t) ≡ Err refusal.TableNotGood
   unfolding table_in is_good
   accept_bad h e = rw (le-leb (length t) (2 * limit) h) (go (term_in t) e)
     where
       go : (o : Option Term) → is_there o ≡ false
-          → sized (with (or_refuse o refusal.TableNotGood) (λ u. unless (leb (depth u) depth_limit) refusal.TooDeep (answered u))) ≡ Refused refusal.TableNotGood
+          → sized (with (or_refuse o refusal.TableNotGood) (λ u. unless (leb (depth u) depth_limit) refusal.TooDeep (answered u))) ≡ Err refusal.TableNotGood
       go none e = refl
       go (some u) e = never (cc)
 
@@ -367,14 +380,14 @@ module _ (limit : ℕ) (t : List ℕ) where
   unfolding table_in
   good_answer h e = rw (le-leb (length t) (2 * limit) h, (good_begins t e).1) refl
 
-  pub accept_deep : length t ≤ 2 * limit → is_good t ≡ true → leb (depth (front t)) depth_limit ≡ false → sized (table_in limit t) ≡ Refused refusal.TooDeep
+  pub accept_deep : length t ≤ 2 * limit → is_good t ≡ true → leb (depth (front t)) depth_limit ≡ false → sized (table_in limit t) ≡ Err refusal.TooDeep
   accept_deep h e d = rw (good_answer h e, d) refl
 
-  pub accept_good : length t ≤ 2 * limit → is_good t ≡ true → leb (depth (front t)) depth_limit ≡ true → sized (table_in limit t) ≡ Nodes (length t / 2)
+  pub accept_good : length t ≤ 2 * limit → is_good t ≡ true → leb (depth (front t)) depth_limit ≡ true → sized (table_in limit t) ≡ Ok (length t / 2)
   accept_good h e d =
       let w = (good_begins t e).2 in
       let n : nodes (front t) ≡ length t / 2 = omega arith in
-      rw (good_answer h e, d) (ap Nodes n)
+      rw (good_answer h e, d) (ap Ok n)
 
 -- ---- What callers know of an accepted table
 
@@ -385,11 +398,11 @@ table_begins u t e f =
     (record { whole = rw p refl; enough = rw p (omega arith) }, rw p refl)
 
 -- an accepted subject's table begins with it
-pub subject_there : (subject : List ℕ) {n : ℕ} {r : Sized} → r ≡ sized (subject_in subject) → r ≡ Nodes n
+pub subject_there : (subject : List ℕ) {n : ℕ} {r : Result ℕ Refusal} → r ≡ sized (subject_in subject) → r ≡ Ok n
     → (subject_in subject ≡ answered (front subject)) × (n ≡ nodes (front subject))
 subject_there subject e f = go (subject_in subject) refl (sym f ∙ e)
   where
-    go : {n : ℕ} (a : Answer Term) → subject_in subject ≡ a → Nodes n ≡ sized a → (subject_in subject ≡ answered (front subject)) × (n ≡ nodes (front subject))
+    go : {n : ℕ} (a : Answer Term) → subject_in subject ≡ a → Ok n ≡ sized a → (subject_in subject ≡ answered (front subject)) × (n ≡ nodes (front subject))
     go (refused w) q e = never (cc)
     go {n} (answered u) q e =
         let h = (subject_in_held subject u q).0 in
@@ -404,10 +417,10 @@ pub record AcceptedTable (limit : ℕ) (t : List ℕ) (n : ℕ) : Type 0 where
   pub table : table_of (front t) ≡ t
   pub fits : Fits (front t)
 
-pub accepted_table : (limit : ℕ) (t : List ℕ) (n : ℕ) → Nodes n ≡ sized (table_in limit t) → AcceptedTable limit t n
+pub accepted_table : (limit : ℕ) (t : List ℕ) (n : ℕ) → Ok n ≡ sized (table_in limit t) → AcceptedTable limit t n
 accepted_table limit t n e = go (table_in limit t) refl e
   where
-    go : (a : Answer Term) → table_in limit t ≡ a → Nodes n ≡ sized a → AcceptedTable limit t n
+    go : (a : Answer Term) → table_in limit t ≡ a → Ok n ≡ sized a → AcceptedTable limit t n
     go (refused r) p e = never (cc)
     go (answered u) p e =
         let h = table_in_held limit t u p in
@@ -470,19 +483,19 @@ accepted_part n u a e = part_begins n u a.table a.fits e
 
 -- ---- A subject
 
-pub subject_refused : (t : List ℕ) (r : Refusal) → Refused r ≡ sized (table_in plan_limit t) → sized (subject_in t) ≡ Refused r
+pub subject_refused : (t : List ℕ) (r : Refusal) → Err r ≡ sized (table_in plan_limit t) → sized (subject_in t) ≡ Err r
 unfolding subject_in
 subject_refused t r e = go (table_in plan_limit t) e
   where
-    go : (a : Answer Term) → Refused r ≡ sized a → sized (with a (λ u. unless (is_empty (metas u)) refusal.MetavariableInSubject (answered u))) ≡ Refused r
+    go : (a : Answer Term) → Err r ≡ sized a → sized (with a (λ u. unless (is_empty (metas u)) refusal.MetavariableInSubject (answered u))) ≡ Err r
     go (answered u) e = never (cc)
     go (refused q) e = sym e
 
 module _ {t : List ℕ} {n : ℕ} (a : AcceptedTable plan_limit t n) where
-  pub subject_metavariable : is_empty (metas (front t)) ≡ false → sized (subject_in t) ≡ Refused refusal.MetavariableInSubject
+  pub subject_metavariable : is_empty (metas (front t)) ≡ false → sized (subject_in t) ≡ Err refusal.MetavariableInSubject
   unfolding subject_in
   subject_metavariable e = rw (a.term, e) refl
 
-  pub subject_plain : is_empty (metas (front t)) ≡ true → sized (subject_in t) ≡ Nodes n
+  pub subject_plain : is_empty (metas (front t)) ≡ true → sized (subject_in t) ≡ Ok n
   unfolding subject_in
-  subject_plain e = rw (a.term, e) (ap Nodes (sym a.count))
+  subject_plain e = rw (a.term, e) (ap Ok (sym a.count))

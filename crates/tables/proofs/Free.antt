@@ -15,7 +15,7 @@ use Rattle.documents.specs.Terms.{Var, Nil, Cons, Term, Terms}
 use Rattle.documents.specs.Rules.{fv, freevars, closed}
 use Rattle.documents.proofs.Lists.{on, T_of, of_and, every_append}
 use Rattle.tables.specs.Parts.{terms, front, Begins, word_count}
-use Rattle.tables.specs.declared.walk.Walked.TheVariants.{Words, Stopped}
+use Rattle.std.specs.Prelude.{Some, None}
 use Rattle.tables.specs.Forbidden.{clear, looked, Small, unmarked, marked, mark_all, marked_with}
 use Rattle.tables.proofs.Parts.{join, Step, step, front_term, from, from_drop}
 use Rattle.tables.proofs.Walks.{at_variable, at_abstraction, Walk, walk_body, ended, Walking, walking_from, walking_on, walking_variable, walking_abstraction, walking_ended, walked_words, walked_stopped, is_words, is_stopped}
@@ -95,14 +95,14 @@ pub record Looking (marks : List ℕ) (j : ℕ) (part : List ℕ) (owed at : ℕ
 pub looking_from : {marks : List ℕ} {j : ℕ} {part : List ℕ} → Begins 1 part → Looking marks j part 1 0
 looking_from {marks} {j} b = record { walk = walking_from b; same = look_front (unmarked marks) j b }
 
-pub looking_ended : {marks : List ℕ} {j : ℕ} {part : List ℕ} {owed at : ℕ} → Looking marks j part owed at → owed ≤ 0 → Words at ≡ looked marks j (front part)
+pub looking_ended : {marks : List ℕ} {j : ℕ} {part : List ℕ} {owed at : ℕ} → Looking marks j part owed at → owed ≤ 0 → Some at ≡ looked marks j (front part)
 looking_ended {part = part} {at = at} l h = is_words _ (front part) at (sym (rw (ended l.walk.walk h) at l.same)) (walking_ended l.walk h)
 
 module _ {marks : List ℕ} {j : ℕ} {part : List ℕ} {owed at : ℕ} (l : Looking marks j part owed at) (h : 0 < owed) where
   pub looking_variable : get_or part at 0 < 65536 → marked marks j (get_or part at 0) ≡ false → Looking marks j part (owed - 1) (at + 2)
   looking_variable v e = record { walk = walking_variable l.walk h v; same = sym (look_unmarked l.walk.walk h marks j v e) ∙ l.same }
 
-  pub variable_marked : get_or part at 0 < 65536 → marked marks j (get_or part at 0) ≡ true → Stopped ≡ looked marks j (front part)
+  pub variable_marked : get_or part at 0 < 65536 → marked marks j (get_or part at 0) ≡ true → None ≡ looked marks j (front part)
   variable_marked v e = is_stopped _ (front part) (sym l.same ∙ look_marked l.walk.walk h marks j v e)
 
   pub looking_applied : 65536 ≤ get_or part at 0 → ((get_or part at 0 ≡ 196608) → ⊥) → Looking marks j part (owed - 1 + get_or part (at + 1) 0) (at + 2)
@@ -112,14 +112,14 @@ module _ {marks : List ℕ} {j : ℕ} {part : List ℕ} {owed at : ℕ} (l : Loo
   pub body : get_or part at 0 ≡ 196608 → Begins 1 (from (at + 2) part)
   body v = walk_body l.walk.walk h v
 
-  pub looking_body : (n : ℕ) → get_or part at 0 ≡ 196608 → Words n ≡ looked marks (j + 1) (front (from (at + 2) part)) → Looking marks j part (owed - 1) (at + (2 + n))
+  pub looking_body : (n : ℕ) → get_or part at 0 ≡ 196608 → Some n ≡ looked marks (j + 1) (front (from (at + 2) part)) → Looking marks j part (owed - 1) (at + (2 + n))
   looking_body n v e =
       let inner = front (drop (at + 2) part) in
       let d = walked_words (every (unmarked marks) (fv (j + 1) inner)) inner n (rw (from_drop (at + 2) part) at e) in
       let k : at + (2 + n) ≡ at + 2 + word_count inner = let q = d.1 in omega arith in
       rw k (record { walk = walking_abstraction l.walk h v; same = sym (look_past l.walk.walk h marks j v d.0) ∙ l.same })
 
-  pub body_marked : get_or part at 0 ≡ 196608 → Stopped ≡ looked marks (j + 1) (front (from (at + 2) part)) → Stopped ≡ looked marks j (front part)
+  pub body_marked : get_or part at 0 ≡ 196608 → None ≡ looked marks (j + 1) (front (from (at + 2) part)) → None ≡ looked marks j (front part)
   body_marked v e =
       is_stopped _ (front part)
       (sym l.same ∙ look_inside l.walk.walk h marks j v (walked_stopped _ (front (drop (at + 2) part)) (rw (from_drop (at + 2) part) at e)))

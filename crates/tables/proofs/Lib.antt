@@ -1,7 +1,9 @@
 pub mod Parts
 pub mod Walks
+pub mod Nodes
 pub mod Accepted
 pub mod Free
 pub mod Renamed
 pub mod Sides
 pub mod Fronts
+pub mod Along

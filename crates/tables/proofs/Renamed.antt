@@ -7,7 +7,7 @@ use native.Mathlib.Omega.{arith}
 use mathlib.Core.Bool.{Bool, true, false, ◌&&◌, cond, and-false, and-true, and_assoc}
 use mathlib.Core.List.{List, [], ◌∷◌}
 use lib.Dec.{eqb, ltb}
-use lib.ListN.{length, drop, get_or, length-drop}
+use lib.ListN.{drop, get_or}
 use borrow.Author.Tests.{lt-ltb, le-ltb, ltb-true, ltb-false, eq-eqb, ne_eqb, eqb-true, eqb-false}
 use Rattle.documents.specs.Terms.{Sort, Tm, Var, Sym, Meta, Abst, Nil, Cons, Term, Terms, len, rename}
 use Rattle.documents.specs.Tables.{nodes}
@@ -17,9 +17,9 @@ use Rattle.documents.proofs.Lists.{never, both_true}
 use Rattle.documents.proofs.Substitution.{rename_ext, rename_id}
 use Rattle.documents.proofs.Paper.{equal_is}
 use Rattle.tables.specs.Parts.{terms, front, Begins, word_count}
-use Rattle.tables.specs.declared.walk.Walked.TheVariants.{Words, Stopped}
+use Rattle.std.specs.Prelude.{Some, None}
 use Rattle.tables.specs.Compared.{same_variable, compared}
-use Rattle.tables.proofs.Parts.{join, headed, Shape, Step, step, two, front_term, from, from_drop}
+use Rattle.tables.proofs.Parts.{join, headed, Shape, Step, step, front_term, from, from_drop}
 use Rattle.tables.proofs.Walks.{at_variable, at_abstraction, Walk, walk_body, ended, Walking, walking_from, walking_on, walking_variable, walking_abstraction, walking_ended, walked_words, walked_stopped, is_words, is_stopped}
 
 module _ (ps : List (ℕ × ℕ)) (D : ℕ) where
@@ -211,13 +211,13 @@ pub comparing_from : {pairs : List ℕ} {D j : ℕ} {old new : List ℕ} → Beg
 comparing_from {pairs} {D} {j} b d = record { walk = walking_from b; other = walking_from d; same = compare_front (pairs_in pairs) D j b d }
 
 pub comparing_ended : {pairs : List ℕ} {D j : ℕ} {old new : List ℕ} {owed at : ℕ} → Comparing pairs D j old new owed at → owed ≤ 0
-    → Words at ≡ compared pairs D j (front old) (front new)
+    → Some at ≡ compared pairs D j (front old) (front new)
 comparing_ended {old = old} {at = at} c h =
     is_words _ (front old) at (sym (rw (ended c.walk.walk h, ended c.other.walk h) at c.same)) (walking_ended c.walk h)
 
 module _ {pairs : List ℕ} {D j : ℕ} {old new : List ℕ} {owed at : ℕ} (c : Comparing pairs D j old new owed at) (h : 0 < owed) where
   -- a difference at the node
-  differs : equal_under (pairs_in pairs) D j (terms owed (drop at old)) (terms owed (drop at new)) ≡ false → Stopped ≡ compared pairs D j (front old) (front new)
+  differs : equal_under (pairs_in pairs) D j (terms owed (drop at old)) (terms owed (drop at new)) ≡ false → None ≡ compared pairs D j (front old) (front new)
   differs e = is_stopped _ (front old) (sym c.same ∙ e)
 
   pub comparing_variable : get_or old at 0 < 65536 → same_variable (pairs_in pairs) D j (get_or old at 0) (get_or new at 0) ≡ true
@@ -227,13 +227,13 @@ module _ {pairs : List ℕ} {D j : ℕ} {old new : List ℕ} {owed at : ℕ} (c 
       record { walk = walking_variable c.walk h v; other = walking_variable c.other h p.0; same = sym p.1 ∙ c.same }
 
   pub variable_differs : get_or old at 0 < 65536 → same_variable (pairs_in pairs) D j (get_or old at 0) (get_or new at 0) ≡ false
-      → Stopped ≡ compared pairs D j (front old) (front new)
+      → None ≡ compared pairs D j (front old) (front new)
   variable_differs v e = differs (other_variable (pairs_in pairs) D c.walk.walk c.other.walk h j v e)
 
-  pub word_differs : 65536 ≤ get_or old at 0 → ((get_or new at 0 ≡ get_or old at 0) → ⊥) → Stopped ≡ compared pairs D j (front old) (front new)
+  pub word_differs : 65536 ≤ get_or old at 0 → ((get_or new at 0 ≡ get_or old at 0) → ⊥) → None ≡ compared pairs D j (front old) (front new)
   word_differs v e = differs (other_word (pairs_in pairs) D c.walk.walk c.other.walk h j v e)
 
-  pub count_differs : 65536 ≤ get_or old at 0 → ((get_or new (at + 1) 0 ≡ get_or old (at + 1) 0) → ⊥) → Stopped ≡ compared pairs D j (front old) (front new)
+  pub count_differs : 65536 ≤ get_or old at 0 → ((get_or new (at + 1) 0 ≡ get_or old (at + 1) 0) → ⊥) → None ≡ compared pairs D j (front old) (front new)
   count_differs v e = differs (other_count (pairs_in pairs) D c.walk.walk c.other.walk h j v e)
 
   pub comparing_applied : 65536 ≤ get_or old at 0 → ((get_or old at 0 ≡ 196608) → ⊥) → get_or new at 0 ≡ get_or old at 0 → get_or new (at + 1) 0 ≡ get_or old (at + 1) 0
@@ -248,7 +248,7 @@ module _ {pairs : List ℕ} {D j : ℕ} {old new : List ℕ} {owed at : ℕ} (c 
   pub bodies : get_or old at 0 ≡ 196608 → get_or new at 0 ≡ get_or old at 0 → Begins 1 (from (at + 2) old) × Begins 1 (from (at + 2) new)
   bodies v w = (walk_body c.walk.walk h v, walk_body c.other.walk h (w ∙ v))
 
-  pub comparing_body : (n : ℕ) → get_or old at 0 ≡ 196608 → get_or new at 0 ≡ get_or old at 0 → Words n ≡ compared pairs D (j + 1) (front (from (at + 2) old)) (front (from (at + 2) new))
+  pub comparing_body : (n : ℕ) → get_or old at 0 ≡ 196608 → get_or new at 0 ≡ get_or old at 0 → Some n ≡ compared pairs D (j + 1) (front (from (at + 2) old)) (front (from (at + 2) new))
       → Comparing pairs D j old new (owed - 1) (at + (2 + n))
   comparing_body n v w e =
       let body = front (drop (at + 2) old) in
@@ -261,29 +261,25 @@ module _ {pairs : List ℕ} {D j : ℕ} {old new : List ℕ} {owed at : ℕ} (c 
         same = sym (rw g.0 at g.1) ∙ c.same;
       })
 
-  pub body_differs : get_or old at 0 ≡ 196608 → get_or new at 0 ≡ get_or old at 0 → Stopped ≡ compared pairs D (j + 1) (front (from (at + 2) old)) (front (from (at + 2) new))
-      → Stopped ≡ compared pairs D j (front old) (front new)
+  pub body_differs : get_or old at 0 ≡ 196608 → get_or new at 0 ≡ get_or old at 0 → None ≡ compared pairs D (j + 1) (front (from (at + 2) old)) (front (from (at + 2) new))
+      → None ≡ compared pairs D j (front old) (front new)
   body_differs v w e =
       differs
       (other_body (pairs_in pairs) D c.walk.walk c.other.walk h j v (w ∙ v)
       (walked_stopped _ (front (drop (at + 2) old)) (rw (from_drop (at + 2) old, from_drop (at + 2) new) at e)))
 
--- ---- A free variable's new index: the pairs from place i on
+-- ---- A free variable's new index: the first pair, and those behind it
 
-module _ (pairs : List ℕ) (i D y : ℕ) where
-  pub pair_found : i + 2 ≤ length pairs → get_or pairs i 0 ≡ y → renaming (pairs_in (drop i pairs)) D y ≡ get_or pairs (i + 1) 0
-  pair_found l e = rw (two pairs i l, eq-eqb (get_or pairs i 0) y e) refl
+module _ (D y : ℕ) where
+  module _ (a b : ℕ) (ps : List (ℕ × ℕ)) where
+    pub pair_found : a ≡ y → renaming ((a, b) ∷ ps) D y ≡ b
+    pair_found e = rw (eq-eqb a y e) refl
 
-  pub pair_passed : i + 2 ≤ length pairs → ((get_or pairs i 0 ≡ y) → ⊥) → renaming (pairs_in (drop i pairs)) D y ≡ renaming (pairs_in (drop (i + 2) pairs)) D y
-  pair_passed l e = rw (two pairs i l, ne_eqb (get_or pairs i 0) y e) refl
+    pub pair_passed : ((a ≡ y) → ⊥) → renaming ((a, b) ∷ ps) D y ≡ renaming ps D y
+    pair_passed e = rw (ne_eqb a y e) refl
 
-  pub no_pair : length pairs ≤ i + 1 → renaming (pairs_in (drop i pairs)) D y ≡ y + D - 64
-  no_pair l = go (drop i pairs) (rw (length-drop i pairs) (omega arith))
-    where
-      go : (ws : List ℕ) → length ws ≤ 1 → renaming (pairs_in ws) D y ≡ y + D - 64
-      go [] l = refl
-      go (x ∷ []) l = refl
-      go (x ∷ z ∷ ws) l = absurd (omega arith)
+  pub no_pair : renaming [] D y ≡ y + D - 64
+  no_pair = refl
 
 -- ---- A variable's word and another
 

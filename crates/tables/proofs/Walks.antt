@@ -11,7 +11,9 @@ use lib.Seq.{drop-drop}
 use Rattle.documents.specs.Terms.{Sort, Tm, Var, Abst, Nil, Cons, Term, Terms, len}
 use Rattle.documents.specs.Tables.{nodes}
 use Rattle.documents.proofs.Lists.{never}
-use Rattle.tables.specs.declared.walk.Walked.TheVariants.{Words, Stopped}
+use Rattle.std.specs.Prelude
+use Rattle.std.specs.Prelude.{Some, None}
+use Rattle.std.specs.Option.{is_some}
 use Rattle.tables.specs.Parts.{terms, front, Begins, word_count, walked}
 use Rattle.tables.proofs.Parts.{join, only, headed, Shape, Step, step, begins_inside, begins_less, passed, front_term, words_fit, from, from_drop}
 
@@ -97,7 +99,7 @@ pub record Walk (t : List ℕ) (a n : ℕ) : Type 0 where
   pub begins : Begins n (drop a t)
   pub within : a + 2 * n ≤ length t
 
-walk_at : {t : List ℕ} {a n : ℕ} → Begins n (drop a t) → a ≤ length t → Walk t a n
+pub walk_at : {t : List ℕ} {a n : ℕ} → Begins n (drop a t) → a ≤ length t → Walk t a n
 walk_at {t} {a} {n} b h = record {
   begins = b;
   within =
@@ -207,22 +209,30 @@ walking_inside {part} b =
 -- ---- What a walk's answer says
 
 module _ {s : Sort} (q : Bool) (ts : Tm s) where
-  pub walked_words : (n : ℕ) → Words n ≡ walked q ts → (q ≡ true) × (n ≡ word_count ts)
+  pub walked_words : (n : ℕ) → Some n ≡ walked q ts → (q ≡ true) × (n ≡ word_count ts)
   walked_words n e = go q e
     where
-      go : (q : Bool) → Words n ≡ walked q ts → (q ≡ true) × (n ≡ word_count ts)
+      go : (q : Bool) → Some n ≡ walked q ts → (q ≡ true) × (n ≡ word_count ts)
       go true e = (refl, cc)
       go false e = never (cc)
 
-  pub walked_stopped : Stopped ≡ walked q ts → q ≡ false
+  pub walked_stopped : None ≡ walked q ts → q ≡ false
   walked_stopped e = go q e
     where
-      go : (q : Bool) → Stopped ≡ walked q ts → q ≡ false
+      go : (q : Bool) → None ≡ walked q ts → q ≡ false
       go true e = never (cc)
       go false e = refl
 
-  pub is_words : (n : ℕ) → q ≡ true → n ≡ word_count ts → Words n ≡ walked q ts
+  -- whether there is one is the test
+  pub walked_some : (o : Prelude.Option ℕ) → o ≡ walked q ts → is_some o ≡ q
+  walked_some o e = rw e (go q)
+    where
+      go : (q : Bool) → is_some (walked q ts) ≡ q
+      go true = refl
+      go false = refl
+
+  pub is_words : (n : ℕ) → q ≡ true → n ≡ word_count ts → Some n ≡ walked q ts
   is_words n e k = rw (e, k) refl
 
-  pub is_stopped : q ≡ false → Stopped ≡ walked q ts
+  pub is_stopped : q ≡ false → None ≡ walked q ts
   is_stopped e = rw e refl

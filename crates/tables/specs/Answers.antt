@@ -1,17 +1,16 @@
 -- What the table check answers (document 01, 'Terms and node tables' and 'Numbers given back').
-use Rattle.std.specs.Prelude.{ℕ, ◌/◌, ◌%◌, Bool, true, false, ◌&&◌, List, eqb, leb}
+use Rattle.std.specs.Prelude.{ℕ, ◌/◌, ◌%◌, Bool, true, false, ◌&&◌, List, eqb, leb, Result, Ok, Err}
 use Rattle.std.proofs.Math.Option.{Option, none, some}
 use Rattle.documents.specs.Limits.{argument_limit, kind_step}
 use Rattle.documents.specs.Terms.{Term}
 use Rattle.documents.specs.Tables.{Kind, variable, symbol, metavariable, abstraction, other, kind_of, term_in, nodes}
 use Rattle.documents.specs.Numbers.{Answer, answered, refused}
-use Rattle.tables.specs.declared.accept.Sized.{Sized}
-use Rattle.tables.specs.declared.accept.Sized.TheVariants.{Nodes, Refused}
+use Rattle.documents.specs.declared.Refusal.{Refusal}
 
 -- the node count, or the refusal that is due
-abbrev pub sized : Answer Term → Sized
-sized (answered t) = Nodes (nodes t)
-sized (refused r) = Refused r
+abbrev pub sized : Answer Term → Result ℕ Refusal
+sized (answered t) = Ok (nodes t)
+sized (refused r) = Err r
 
 abbrev pub is_there : Option Term → Bool
 is_there none = false

@@ -1,10 +1,9 @@
 -- Free variables that are forbidden (004, section 4.2: CHECK). The forbidden ones are marked: a mark for each index below 64, and one for all
 -- indices from there on.
-use Rattle.std.specs.Prelude.{◌≡◌, ℕ, ◌-◌, min, Bool, true, not, ◌&&◌, List, [], ◌∷◌, eqb, ltb, get_or, set, replicate}
+use Rattle.std.specs.Prelude.{Option, ◌≡◌, ℕ, ◌-◌, min, Bool, true, not, ◌&&◌, List, [], ◌∷◌, eqb, ltb, get_or, set, replicate}
 use Rattle.documents.specs.Lists.{every, member}
 use Rattle.documents.specs.Terms.{Term}
 use Rattle.documents.specs.Rules.{fv, freevars}
-use Rattle.tables.specs.declared.walk.Walked.{Walked}
 use Rattle.tables.specs.Parts.{walked}
 
 -- the test of CHECK: no free variable is listed
@@ -23,7 +22,7 @@ abbrev pub marked : List ℕ → ℕ → ℕ → Bool
 marked marks n x = not (ltb x n) && not (unmarked marks (x - n))
 
 -- a walk of a term under n abstractions that stops at a marked variable
-abbrev pub looked : List ℕ → ℕ → Term → Walked
+abbrev pub looked : List ℕ → ℕ → Term → Option ℕ
 looked marks n t = walked (every (unmarked marks) (fv n t)) t
 
 abbrev pub mark_all : List ℕ → List ℕ → List ℕ

@@ -1,4 +1,5 @@
 pub mod Parts
+pub mod Nodes
 pub mod Answers
 pub mod Forbidden
 pub mod Compared

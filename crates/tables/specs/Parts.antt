@@ -1,11 +1,10 @@
 -- Parts of a table (document 01, 'Terms and node tables'): a subterm is handed on as the part of the table that starts at its node. Such a part
 -- holds whole terms, one after the other, and begins with that subterm.
-use Rattle.std.specs.Prelude.{◌≡◌, ℕ, zero, suc, ◌*◌, ◌≤◌, Bool, true, false, List, [], ◌∷◌, length}
+use Rattle.std.specs.Prelude
+use Rattle.std.specs.Prelude.{◌≡◌, ℕ, zero, suc, ◌*◌, ◌≤◌, Bool, true, false, List, [], ◌∷◌, length, Some, None}
 use Rattle.std.proofs.Math.Option.{Option, none, some}
 use Rattle.documents.specs.Terms.{Sort, Tm, Var, Nil, Cons, Term, Terms}
 use Rattle.documents.specs.Tables.{terms_in, nodes}
-use Rattle.tables.specs.declared.walk.Walked.{Walked}
-use Rattle.tables.specs.declared.walk.Walked.TheVariants.{Words, Stopped}
 
 abbrev pub or_empty : Option (List Term) → List Term
 or_empty none = []
@@ -42,6 +41,6 @@ abbrev pub word_count : {s : Sort} → Tm s → ℕ
 word_count t = 2 * nodes t
 
 -- a walk's answer: the words of the terms of which the test holds
-abbrev pub walked : {s : Sort} → Bool → Tm s → Walked
-walked true ts = Words (word_count ts)
-walked false ts = Stopped
+abbrev pub walked : {s : Sort} → Bool → Tm s → Prelude.Option ℕ
+walked true ts = Some (word_count ts)
+walked false ts = None

@@ -10,40 +10,31 @@ use crate::node::{ABSTRACTION, FIRST_SYMBOL, MOST_ARGUMENTS, MOST_DEPTH, PLAN_NO
 use crate::side::plain;
 use documents::Refusal;
 
-#[derive(Drop)]
-pub enum Sized {
-    Nodes(usize),
-    Refused(Refusal),
-}
-
 // A table within its node limit.
-pub fn accept(table: &[u32], limit: u32) -> Sized
+pub fn accept(table: &[u32], limit: u32) -> Result<usize, Refusal>
     ensures { result ≡ sized (table_in limit table.now) }
 {
     if 2 * (limit as usize) < table.len() {
-        return Sized::Refused(Refusal::TooManyWords);
+        return Err(Refusal::TooManyWords);
     }
     if !good(table) {
-        return Sized::Refused(Refusal::TableNotGood);
+        return Err(Refusal::TableNotGood);
     }
     if !is_shallow(table) {
-        return Sized::Refused(Refusal::TooDeep);
+        return Err(Refusal::TooDeep);
     }
-    Sized::Nodes(table.len() / 2)
+    Ok(table.len() / 2)
 }
 
 // A subject: it has no metavariables besides.
-pub fn accept_subject(table: &[u32]) -> Sized
+pub fn accept_subject(table: &[u32]) -> Result<usize, Refusal>
     ensures { result ≡ sized (subject_in table.now) }
 {
-    let accepted = accept(table, PLAN_NODES);
-    let Sized::Nodes(_) = accepted else {
-        return accepted;
-    };
+    let nodes = accept(table, PLAN_NODES)?;
     if !plain(table) {
-        return Sized::Refused(Refusal::MetavariableInSubject);
+        return Err(Refusal::MetavariableInSubject);
     }
-    accepted
+    Ok(nodes)
 }
 
 // Whether a table is good, however deep: one running count of the terms still owed.
@@ -51,22 +42,14 @@ pub fn good(table: &[u32]) -> bool
     ensures { result ≡ is_good table.now }
 {
     let mut owed: usize = 1;
-    let mut at: usize = 0;
-    while at + 1 < table.len() {
-        if owed == 0 {
-            return false;
-        }
-        let count = table[at + 1];
-        if !in_layout(table[at], count) {
+    for node in table.chunks_exact(2) {
+        let (word, count) = (node[0], node[1]);
+        if owed == 0 || !in_layout(word, count) {
             return false;
         }
         owed = owed - 1 + count as usize;
-        at += 2;
     }
-    if at < table.len() {
-        return false;
-    }
-    owed == 0
+    owed == 0 && table.len() % 2 == 0
 }
 
 // Whether a node's words are such as 01's table of kinds has them.

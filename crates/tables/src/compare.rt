@@ -6,7 +6,6 @@ ghost use Rattle.tables.specs.Parts.{front, Begins};
 ghost use Rattle.tables.specs.Compared.{agrees, compared, same_variable};
 
 use crate::node::{ABSTRACTION, FIRST_SYMBOL};
-use crate::walk::Walked;
 
 // Code words hold d + 64 for d.
 pub const D_SHIFT: u32 = 64;
@@ -16,10 +15,7 @@ pub fn same(old: &[u32], new: &[u32], shift: u32, pairs: &[u32]) -> bool
     requires { Begins 1 old.now × Begins 1 new.now }
     ensures { result ≡ agrees pairs.now shift (front old.now) (front new.now) }
 {
-    let Walked::Words(_) = compare_under(old, new, shift, pairs, 0) else {
-        return false;
-    };
-    true
+    compare_under(old, new, shift, pairs, 0).is_some()
 }
 
 // EQIMM: the two subterms are one.
@@ -32,7 +28,7 @@ pub fn identical(old: &[u32], new: &[u32]) -> bool
 
 // The same below so many abstractions: how many words the two have, if they agree. As long as they do, a node stands at the same place of both.
 // Nodes are passed by a running count of the terms still owed; only an abstraction takes a call.
-fn compare_under(old: &[u32], new: &[u32], shift: u32, pairs: &[u32], under: usize) -> Walked
+fn compare_under(old: &[u32], new: &[u32], shift: u32, pairs: &[u32], under: usize) -> Option<usize>
     requires { Begins 1 old.now × Begins 1 new.now × (under + length old.now < 2 ^ 64) }
     ensures { result ≡ compared pairs.now shift under (front old.now) (front new.now) }
 {
@@ -43,37 +39,29 @@ fn compare_under(old: &[u32], new: &[u32], shift: u32, pairs: &[u32], under: usi
         let other = new[at];
         if word < FIRST_SYMBOL {
             if !is_same_variable(word, other, shift, pairs, under) {
-                return Walked::Stopped;
+                return None;
             }
             owed -= 1;
             at += 2;
             continue;
         }
         if other != word {
-            return Walked::Stopped;
+            return None;
         }
         if word == ABSTRACTION {
-            let Walked::Words(words) = compare_under(
-                &old[at + 2..],
-                &new[at + 2..],
-                shift,
-                pairs,
-                under + 1,
-            ) else {
-                return Walked::Stopped;
-            };
+            let words = compare_under(&old[at + 2..], &new[at + 2..], shift, pairs, under + 1)?;
             owed -= 1;
             at += 2 + words;
             continue;
         }
         let count = old[at + 1];
         if new[at + 1] != count {
-            return Walked::Stopped;
+            return None;
         }
         owed = owed - 1 + count as usize;
         at += 2;
     }
-    Walked::Words(at)
+    Some(at)
 }
 
 // Whether a variable's word, renamed below so many abstractions, is the other word.
@@ -101,16 +89,10 @@ fn renamed(index: usize, shift: u32, pairs: &[u32]) -> usize
     requires { index < 65536 }
     ensures { result ≡ renaming (pairs_in pairs.now) shift index }
 {
-    let mut i: usize = 0;
-    while i + 1 < pairs.len() {
-        if pairs[i] as usize == index {
-            return pairs[i + 1] as usize;
+    for pair in pairs.chunks_exact(2) {
+        if pair[0] as usize == index {
+            return pair[1] as usize;
         }
-        i += 2;
     }
-    let moved = index + shift as usize;
-    if moved < D_SHIFT as usize {
-        return 0;
-    }
-    moved - D_SHIFT as usize
+    (index + shift as usize).saturating_sub(D_SHIFT as usize)
 }

@@ -5,7 +5,6 @@ ghost use Rattle.tables.specs.Parts.{front, Begins};
 ghost use Rattle.tables.specs.Forbidden.{clear, Small, marked, looked, marked_with};
 
 use crate::node::{ABSTRACTION, FIRST_SYMBOL};
-use crate::walk::Walked;
 
 // Indices that a CHECK can list: its current term has at most 63 abstractions above it.
 pub const LISTED: usize = 64;
@@ -18,14 +17,11 @@ pub fn check(part: &[u32], indices: &[u32]) -> bool
     requires { Begins 1 part.now × Small indices.now }
     ensures { result ≡ clear indices.now (front part.now) }
 {
-    if indices.len() == 0 {
+    if indices.is_empty() {
         return true;
     }
     let marks = marks_of(indices);
-    let Walked::Words(_) = look(part, &marks, 0) else {
-        return false;
-    };
-    true
+    look(part, &marks, 0).is_some()
 }
 
 // A side of a rule has no free variable.
@@ -34,10 +30,7 @@ pub fn is_closed(part: &[u32]) -> bool
     ensures { result ≡ closed (front part.now) }
 {
     let marks = [1u8; MARKS];
-    let Walked::Words(_) = look(part, &marks, 0) else {
-        return false;
-    };
-    true
+    look(part, &marks, 0).is_some()
 }
 
 // The marks of a CHECK's list.
@@ -46,18 +39,15 @@ fn marks_of(indices: &[u32]) -> [u8; MARKS]
     ensures { result ≡ marked_with indices.now }
 {
     let mut marks = [0u8; MARKS];
-    let mut i: usize = 0;
-    while i < indices.len() {
-        let index = indices[i] as usize;
-        marks[index] = 1;
-        i += 1;
+    for &index in indices {
+        marks[index as usize] = 1;
     }
     marks
 }
 
 // Looks through the subterm that a part begins with, under so many abstractions: how many words it has, if no free variable of it is marked.
 // Nodes are passed by a running count of the terms still owed; only an abstraction takes a call.
-fn look(part: &[u32], marks: &[u8; MARKS], under: usize) -> Walked
+fn look(part: &[u32], marks: &[u8; MARKS], under: usize) -> Option<usize>
     requires { Begins 1 part.now × (under + length part.now < 2 ^ 64) }
     ensures { result ≡ looked marks.now under (front part.now) }
 {
@@ -67,16 +57,14 @@ fn look(part: &[u32], marks: &[u8; MARKS], under: usize) -> Walked
         let word = part[at];
         if word < FIRST_SYMBOL {
             if is_marked(marks, word as usize, under) {
-                return Walked::Stopped;
+                return None;
             }
             owed -= 1;
             at += 2;
             continue;
         }
         if word == ABSTRACTION {
-            let Walked::Words(words) = look(&part[at + 2..], marks, under + 1) else {
-                return Walked::Stopped;
-            };
+            let words = look(&part[at + 2..], marks, under + 1)?;
             owed -= 1;
             at += 2 + words;
             continue;
@@ -84,7 +72,7 @@ fn look(part: &[u32], marks: &[u8; MARKS], under: usize) -> Walked
         owed = owed - 1 + part[at + 1] as usize;
         at += 2;
     }
-    Walked::Words(at)
+    Some(at)
 }
 
 // Whether a variable, met under so many abstractions, is free there and marked.

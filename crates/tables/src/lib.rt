@@ -3,7 +3,7 @@
 #![tactic(auto)]
 
 pub mod node; // the words of a node
-pub mod walk; // what a walk answers
+pub mod walk; // the walk of a term, node by node
 pub mod accept; // the table check: 2, 1, 3, and a subject's 4
 pub mod pass; // passing over a subterm: NEXT
 pub mod forbid; // free variables that are forbidden: CHECK, and the closed sides of a rule

@@ -5,24 +5,18 @@ ghost use Rattle.documents.specs.Rules.{metas, simple, are_vars, freevars};
 ghost use Rattle.tables.specs.Parts.{front, terms, Begins};
 ghost use Rattle.tables.specs.Side.{distinct};
 
-use crate::node::{ABSTRACTION, FIRST_METAVARIABLE, FIRST_SYMBOL};
+use crate::node::FIRST_SYMBOL;
+use crate::walk::Nodes;
 
 // The subterm has no metavariable.
 pub fn plain(part: &[u32]) -> bool
     requires { Begins 1 part.now }
     ensures { result ≡ is_empty (metas (front part.now)) }
 {
-    let mut owed: usize = 1;
-    let mut at: usize = 0;
-    while 0 < owed {
-        let word = part[at];
-        if FIRST_METAVARIABLE <= word {
-            if word < ABSTRACTION {
-                return false;
-            }
+    for node in Nodes::of(part) {
+        if node.is_metavariable() {
+            return false;
         }
-        owed = owed - 1 + part[at + 1] as usize;
-        at += 2;
     }
     true
 }
@@ -32,20 +26,8 @@ pub fn is_simple(part: &[u32]) -> bool
     requires { Begins 1 part.now }
     ensures { result ≡ simple (front part.now) }
 {
-    let mut owed: usize = 1;
-    let mut at: usize = 0;
-    while 0 < owed {
-        let word = part[at];
-        let arguments = part[at + 1];
-        at += 2;
-        owed = owed - 1 + arguments as usize;
-        if word < FIRST_METAVARIABLE {
-            continue;
-        }
-        if word == ABSTRACTION {
-            continue;
-        }
-        if !distinct_variables(&part[at..], arguments) {
+    for node in Nodes::of(part) {
+        if node.is_metavariable() && !distinct_variables(node.behind, node.count) {
             return false;
         }
     }
@@ -60,13 +42,9 @@ fn distinct_variables(part: &[u32], count: u32) -> bool
     if !variables(part, count) {
         return false;
     }
-    let mut left = count;
-    let mut at: usize = 0;
-    while 0 < left {
-        left -= 1;
-        let index = part[at];
-        at += 2;
-        if occurs_among(&part[at..], left, index) {
+    for i in 0..count {
+        let at = 2 * i as usize;
+        if occurs_among(&part[at + 2..], count - i - 1, part[at]) {
             return false;
         }
     }
@@ -78,14 +56,10 @@ fn variables(part: &[u32], count: u32) -> bool
     requires { Begins count part.now }
     ensures { result ≡ are_vars (terms count part.now) }
 {
-    let mut left = count;
-    let mut at: usize = 0;
-    while 0 < left {
-        if FIRST_SYMBOL <= part[at] {
+    for i in 0..count {
+        if FIRST_SYMBOL <= part[2 * i as usize] {
             return false;
         }
-        left -= 1;
-        at += 2;
     }
     true
 }
@@ -95,14 +69,10 @@ pub fn occurs_among(part: &[u32], count: u32, index: u32) -> bool
     requires { Begins count part.now × (are_vars (terms count part.now) ≡ true) }
     ensures { result ≡ member (freevars (terms count part.now)) index }
 {
-    let mut left = count;
-    let mut at: usize = 0;
-    while 0 < left {
-        if part[at] == index {
+    for i in 0..count {
+        if part[2 * i as usize] == index {
             return true;
         }
-        left -= 1;
-        at += 2;
     }
     false
 }

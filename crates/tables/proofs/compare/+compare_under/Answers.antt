@@ -20,20 +20,20 @@ returns-then-other-word t c = word_differs c.loop-owed.invariant c.loop-owed-tes
 pub compare_under-requires : goal.compare_under-requires
 compare_under-requires t c = let b = bodies c.loop-owed.invariant c.loop-owed-test.true c.if-word-eq-ABSTRACTION.true c.if-other-word.false in (body_falls c.loop-owed.invariant.walk.walk c.loop-owed-test.true c.decreases, (b.0, b.1, body_room c.loop-owed.invariant.walk.walk c.loop-owed-test.true _ _ c.requires.2 (omega arith)))
 
-pub returns-in_default : goal.returns-in_default
-returns-in_default t c = body_differs c.loop-owed.invariant c.loop-owed-test.true c.if-word-eq-ABSTRACTION.true c.if-other-word.false (sym c.in_default.is ∙ c.compare_under.ensures)
+pub returns-in_err-words : goal.returns-in_err-words
+returns-in_err-words t c = c.from_residual.ensures ∙ body_differs c.loop-owed.invariant c.loop-owed-test.true c.if-word-eq-ABSTRACTION.true c.if-other-word.false (sym c.in_err-words.was ∙ c.compare_under.ensures)
 
 pub overflow_add-at-then-word-eq-ABSTRACTION-3 : goal.overflow_add-at-then-word-eq-ABSTRACTION-3
-overflow_add-at-then-word-eq-ABSTRACTION-3 t c = let o = comparing_body c.loop-owed.invariant c.loop-owed-test.true _ c.if-word-eq-ABSTRACTION.true c.if-other-word.false (sym c.in-Words.is ∙ c.compare_under.ensures) in search rules
+overflow_add-at-then-word-eq-ABSTRACTION-3 t c = let o = comparing_body c.loop-owed.invariant c.loop-owed-test.true _ c.if-word-eq-ABSTRACTION.true c.if-other-word.false (sym c.in_ok-words.was ∙ c.compare_under.ensures) in search rules
 
 pub overflow_add-at-then-word-eq-ABSTRACTION-4 : goal.overflow_add-at-then-word-eq-ABSTRACTION-4
-overflow_add-at-then-word-eq-ABSTRACTION-4 t c = let o = comparing_body c.loop-owed.invariant c.loop-owed-test.true _ c.if-word-eq-ABSTRACTION.true c.if-other-word.false (sym c.in-Words.is ∙ c.compare_under.ensures) in search rules
+overflow_add-at-then-word-eq-ABSTRACTION-4 t c = let o = comparing_body c.loop-owed.invariant c.loop-owed-test.true _ c.if-word-eq-ABSTRACTION.true c.if-other-word.false (sym c.in_ok-words.was ∙ c.compare_under.ensures) in search rules
 
 pub loop-owed-smaller-then-word-eq-ABSTRACTION : goal.loop-owed-smaller-then-word-eq-ABSTRACTION
-loop-owed-smaller-then-word-eq-ABSTRACTION t c = let o = comparing_body c.loop-owed.invariant c.loop-owed-test.true _ c.if-word-eq-ABSTRACTION.true c.if-other-word.false (sym c.in-Words.is ∙ c.compare_under.ensures) in search rules
+loop-owed-smaller-then-word-eq-ABSTRACTION t c = let o = comparing_body c.loop-owed.invariant c.loop-owed-test.true _ c.if-word-eq-ABSTRACTION.true c.if-other-word.false (sym c.in_ok-words.was ∙ c.compare_under.ensures) in search rules
 
 pub loop-owed-preserved-then-word-eq-ABSTRACTION : goal.loop-owed-preserved-then-word-eq-ABSTRACTION
-loop-owed-preserved-then-word-eq-ABSTRACTION t c = comparing_body c.loop-owed.invariant c.loop-owed-test.true _ c.if-word-eq-ABSTRACTION.true c.if-other-word.false (sym c.in-Words.is ∙ c.compare_under.ensures)
+loop-owed-preserved-then-word-eq-ABSTRACTION t c = comparing_body c.loop-owed.invariant c.loop-owed-test.true _ c.if-word-eq-ABSTRACTION.true c.if-other-word.false (sym c.in_ok-words.was ∙ c.compare_under.ensures)
 
 pub returns-then-new-at : goal.returns-then-new-at
 returns-then-new-at t c = count_differs c.loop-owed.invariant c.loop-owed-test.true c.if-word-lt-FIRST_SYMBOL.false c.if-new-at.true

@@ -17,17 +17,17 @@ loop-owed-preserved-then-word-lt-FIRST_SYMBOL t c = looking_variable c.loop-owed
 pub look-requires : goal.look-requires
 look-requires t c = (body_falls c.loop-owed.invariant.walk.walk c.loop-owed-test.true c.decreases, (body c.loop-owed.invariant c.loop-owed-test.true c.if-word-eq-ABSTRACTION.true, body_room c.loop-owed.invariant.walk.walk c.loop-owed-test.true _ _ c.requires.1 (omega arith)))
 
-pub returns-in_default : goal.returns-in_default
-returns-in_default t c = body_marked c.loop-owed.invariant c.loop-owed-test.true c.if-word-eq-ABSTRACTION.true (sym c.in_default.is ∙ c.look.ensures)
+pub returns-in_err-words : goal.returns-in_err-words
+returns-in_err-words t c = c.from_residual.ensures ∙ body_marked c.loop-owed.invariant c.loop-owed-test.true c.if-word-eq-ABSTRACTION.true (sym c.in_err-words.was ∙ c.look.ensures)
 
 pub overflow_add-at-then-word-eq-ABSTRACTION-2 : goal.overflow_add-at-then-word-eq-ABSTRACTION-2
-overflow_add-at-then-word-eq-ABSTRACTION-2 t c = let o = looking_body c.loop-owed.invariant c.loop-owed-test.true _ c.if-word-eq-ABSTRACTION.true (sym c.in-Words.is ∙ c.look.ensures) in search rules
+overflow_add-at-then-word-eq-ABSTRACTION-2 t c = let o = looking_body c.loop-owed.invariant c.loop-owed-test.true _ c.if-word-eq-ABSTRACTION.true (sym c.in_ok-words.was ∙ c.look.ensures) in search rules
 
 pub overflow_add-at-then-word-eq-ABSTRACTION-3 : goal.overflow_add-at-then-word-eq-ABSTRACTION-3
-overflow_add-at-then-word-eq-ABSTRACTION-3 t c = let o = looking_body c.loop-owed.invariant c.loop-owed-test.true _ c.if-word-eq-ABSTRACTION.true (sym c.in-Words.is ∙ c.look.ensures) in search rules
+overflow_add-at-then-word-eq-ABSTRACTION-3 t c = let o = looking_body c.loop-owed.invariant c.loop-owed-test.true _ c.if-word-eq-ABSTRACTION.true (sym c.in_ok-words.was ∙ c.look.ensures) in search rules
 
 pub loop-owed-preserved-then-word-eq-ABSTRACTION : goal.loop-owed-preserved-then-word-eq-ABSTRACTION
-loop-owed-preserved-then-word-eq-ABSTRACTION t c = looking_body c.loop-owed.invariant c.loop-owed-test.true _ c.if-word-eq-ABSTRACTION.true (sym c.in-Words.is ∙ c.look.ensures)
+loop-owed-preserved-then-word-eq-ABSTRACTION t c = looking_body c.loop-owed.invariant c.loop-owed-test.true _ c.if-word-eq-ABSTRACTION.true (sym c.in_ok-words.was ∙ c.look.ensures)
 
 pub overflow_cast-owed : goal.overflow_cast-owed
 overflow_cast-owed t c = let o = looking_applied c.loop-owed.invariant c.loop-owed-test.true (omega arith) c.if-word-eq-ABSTRACTION.false in search rules

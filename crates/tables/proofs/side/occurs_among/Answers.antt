@@ -1,17 +1,25 @@
+use Rattle.std.proofs.Common.{sym, ◌∙◌, arith}
 use borrow.Author.Tests.{eq-eqb, ne_eqb}
-use mathlib.Core.Path.{refl}
-use Rattle.tables.proofs.Walks.{walk_from, walk_variable, ended}
-use Rattle.tables.proofs.Sides.{is_variable, variables_behind, freevars_here}
+use Rattle.tables.proofs.Along.{along_from, along_zero, along_on, along_variable, along_variables, along_free, along_end}
 use Rattle.tables.proofs.side.occurs_among.Goals as goal
 
-pub loop-left-init : goal.loop-left-init
-loop-left-init c = (walk_from c.requires.0, c.requires.1, refl)
+pub loop-i-init : goal.loop-i-init
+loop-i-init c = let e = along_zero c.args.count c.args.part.now in (along_from c.requires.0, rw e c.requires.1, rw e)
 
-pub returns-then-part-at : goal.returns-then-part-at
-returns-then-part-at c = let l = c.loop-left in let v = is_variable l.invariant.0 c.loop-left-test.true l.invariant.1 in rw (freevars_here l.invariant.0 c.loop-left-test.true v, eq-eqb _ _ c.if-part-at.true) at l.invariant.2
+pub bounds-part-i : goal.bounds-part-i
+bounds-part-i c = let w = c.loop-i.invariant.0.within in omega arith
 
-pub loop-left-preserved : goal.loop-left-preserved
-loop-left-preserved c = let l = c.loop-left in let v = is_variable l.invariant.0 c.loop-left-test.true l.invariant.1 in (walk_variable l.invariant.0 c.loop-left-test.true v, rw (variables_behind l.invariant.0 c.loop-left-test.true v) at l.invariant.1, rw (freevars_here l.invariant.0 c.loop-left-test.true v, ne_eqb _ _ c.if-part-at.false) at l.invariant.2)
+pub returns-then-part-i : goal.returns-then-part-i
+returns-then-part-i c =
+    let l = c.loop-i.invariant in
+    let v = along_variable l.0 c.loop-i-test.true l.1 in
+    rw (along_free l.0 c.loop-i-test.true v, eq-eqb _ _ c.if-part-i.true) at l.2
+
+pub loop-i-preserved : goal.loop-i-preserved
+loop-i-preserved c =
+    let l = c.loop-i.invariant in
+    let v = along_variable l.0 c.loop-i-test.true l.1 in
+    (along_on l.0 c.loop-i-test.true v, sym (along_variables l.0 c.loop-i-test.true v) ∙ l.1, rw (along_free l.0 c.loop-i-test.true v, ne_eqb _ _ c.if-part-i.false) at l.2)
 
 pub returns : goal.returns
-returns c = let l = c.loop-left in rw (ended l.invariant.0 c.loop-left-test.false) at l.invariant.2
+returns c = let l = c.loop-i.invariant in rw (along_end l.0 c.loop-i-test.false) at l.2

@@ -1,0 +1,54 @@
+-- A loop over the nodes of a term, in the form of the laws of a walk: where it stood, and what it owes behind a node.
+use Rattle.std.proofs.Common.{◌≡◌, refl, ap, ◌∙◌, ℕ, ◌+◌, ◌-◌, ◌%◌, ◌≤◌, ◌<◌, true, false, ◌&&◌, List, ◌∷◌, get_or, leb, ltb, arith}
+use borrow.Author.Tests.{le-leb, lt-ltb, leb-true, ltb-true}
+use Rattle.documents.specs.Rules.{metas, simple}
+use Rattle.documents.proofs.Lists.{T_of, of_and, on, never}
+use Rattle.std.specs.Prelude.{drop, Some, None}
+use Rattle.documents.specs.Terms.{Terms, Nil}
+use Rattle.tables.specs.declared.walk.Node.{Node}
+use Rattle.tables.specs.declared.walk.Nodes.{Nodes}
+use Rattle.tables.specs.Parts.{terms, front, Begins}
+use Rattle.tables.specs.Nodes.{Stands, starts, is_metavariable, node_gives, owes}
+use Rattle.tables.specs.Side.{distinct}
+use Rattle.tables.proofs.Walks.{Walk, walk_at, ended}
+use Rattle.tables.proofs.Sides.{metas_front, metas_here, metas_behind, simple_front, simple_here, simple_behind}
+
+pub metavariable_range : {w : ℕ} → is_metavariable w ≡ true → (131072 ≤ w) × (w < 196608)
+metavariable_range {w} e = let k = of_and (leb 131072 w) (ltb w 196608) (T_of _ e) in (leb-true 131072 w (on _ k.0), ltb-true w 196608 (on _ k.1))
+
+pub metavariable_none : {w : ℕ} → is_metavariable w ≡ false → 131072 ≤ w → w < 196608 → ⊥
+metavariable_none {w} e lo hi = never (cc (rw (le-leb 131072 w lo, lt-ltb w 196608 hi) at e))
+
+pub owes_first : (part : List ℕ) (s : Nodes) → starts part s → owes s ≡ terms 1 part
+owes_first part s b = rw (b.0, b.1, b.2) refl
+
+-- a step that gave a node
+module _ (s t : Nodes) (n : Node) (b : Stands s) (g : node_gives s (Some n) t) where
+  pub stood : Walk s.part.now s.at s.owed
+  stood = walk_at b.0 b.1
+
+  pub owes_behind : owes t ≡ terms (s.owed - 1 + get_or s.part.now (s.at + 1) 0) (drop (s.at + 2) s.part.now)
+  owes_behind = rw (g.0, g.1.4, g.1.5, g.1.2) refl
+
+-- a step that gave none
+pub owes_none : (s t : Nodes) → Stands s → node_gives s None t → owes s ≡ Nil
+owes_none s t b g = ended (walk_at b.0 b.1) (omega arith)
+
+pub metas_first : (part : List ℕ) (s : Nodes) → Begins 1 part → starts part s → metas (owes s) ≡ metas (front part)
+metas_first part s b h = ap (λ (ts : Terms). metas ts) (owes_first part s h) ∙ metas_front b
+
+pub simple_first : (part : List ℕ) (s : Nodes) → Begins 1 part → starts part s → simple (owes s) ≡ simple (front part)
+simple_first part s b h = ap (λ (ts : Terms). simple ts) (owes_first part s h) ∙ simple_front b
+
+module _ (s t : Nodes) (n : Node) (b : Stands s) (g : node_gives s (Some n) t) where
+  pub metas_at : is_metavariable n.word ≡ true → metas (owes s) ≡ (n.word % 65536, n.count) ∷ metas (owes t)
+  metas_at e = let r = metavariable_range (rw g.1.1 at e) in rw (owes_behind s t n b g, g.1.1, g.1.2) (metas_here (stood s t n b g) g.1.0 r.0 r.1)
+
+  pub metas_past : is_metavariable n.word ≡ false → metas (owes s) ≡ metas (owes t)
+  metas_past e = rw (owes_behind s t n b g) (metas_behind (stood s t n b g) g.1.0 (metavariable_none (rw g.1.1 at e)))
+
+  pub simple_at : is_metavariable n.word ≡ true → simple (owes s) ≡ distinct (terms n.count n.behind.now) && simple (owes t)
+  simple_at e = let r = metavariable_range (rw g.1.1 at e) in rw (owes_behind s t n b g, g.1.2, g.1.3) (simple_here (stood s t n b g) g.1.0 r.0 (λ e. omega arith))
+
+  pub simple_past : is_metavariable n.word ≡ false → simple (owes s) ≡ simple (owes t)
+  simple_past e = rw (owes_behind s t n b g) (simple_behind (stood s t n b g) g.1.0 (metavariable_none (rw g.1.1 at e)))
