@@ -4,23 +4,13 @@ use Prim.Native.Nat.{ℕ, zero, suc, ◌+◌, ◌-◌, ◌≤◌, ◌<◌}
 use native.Mathlib.Omega.{arith}
 use mathlib.Core.Bool.{true}
 use mathlib.Core.List.{List, [], ◌∷◌, ◌++◌}
-use lib.ListN.{length, get_or, take, drop, set, replicate, length-drop, length-replicate, length-append, get_or-replicate, replicate-append-replicate}
-use lib.Seq.{take_all, take_at, take-suc-set, length-take-le, get_or-take, get_or-drop, get_or-append-add}
+use lib.ListN.{length, get_or, take, drop, replicate, length-drop, length-replicate, length-append, get_or-replicate}
+use lib.Seq.{take_at, length-take-le, get_or-take, get_or-drop, get_or-append-add}
 use borrow.Author.Tests.{ne_eqb}
 use Rattle.documents.specs.Passing.{all_below, times}
 use Rattle.indices.specs.Sets.{gathered}
-use Rattle.turns.specs.Held.{stacked, Low}
+use Rattle.turns.specs.Held.{stacked}
 use Rattle.checker.specs.Matched.{list_behind, Listing}
-
--- ---- one depth after another
-
-pub put_next : (l : List ℕ) (i d : ℕ) → take i l ≡ replicate i d → i < length l → take (i + 1) (set l i d) ≡ replicate (i + 1) d
-put_next l i d e h =
-    let z : i + 1 ≡ suc i = omega arith in
-    rw (z, take-suc-set l i d h, e) (replicate-append-replicate i 1 d ∙ rw z)
-
-pub put_all : (l : List ℕ) (i d n : ℕ) → take i l ≡ replicate i d → length l ≤ i → i ≡ n → l ≡ replicate n d
-put_all l i d n e h k = sym (take_all i l h) ∙ e ∙ rw k
 
 -- ---- the guard
 
@@ -103,6 +93,9 @@ put_replaced ds ys k n j d h e q =
 
 -- ---- depths within the limit
 
+pub record Low (ds : List ℕ) : Type 0 where
+  pub low : (i : ℕ) → get_or ds i 0 ≤ 63
+
 low_append : {xs ys : List ℕ} → Low xs → Low ys → Low (xs ++ ys)
 low_append {xs} {ys} p q = record { low = λ i. go xs i p.low }
   where
@@ -133,13 +126,3 @@ low_replicate n {d} h = record { low = λ i. go n i }
 
 pub low_replaced : {ds : List ℕ} (k n : ℕ) {d : ℕ} → Low ds → d ≤ 63 → Low (replaced ds k n d)
 low_replaced k n p h = low_append (low_take k p) (low_append (low_replicate n h) (low_drop n (low_drop k p)))
-
-pub low_set : {ds : List ℕ} (k : ℕ) {d : ℕ} → Low ds → d ≤ 63 → Low (set ds k d)
-low_set {ds} k {d} p h = record { low = λ i. go ds k i p.low }
-  where
-    go : (xs : List ℕ) (k i : ℕ) → ((i : ℕ) → get_or xs i 0 ≤ 63) → get_or (set xs k d) i 0 ≤ 63
-    go [] k i q = q i
-    go (x ∷ xs) zero zero q = h
-    go (x ∷ xs) zero (suc i) q = q (suc i)
-    go (x ∷ xs) (suc k) zero q = q 0
-    go (x ∷ xs) (suc k) (suc i) q = go xs k i (λ j. q (suc j))

@@ -7,6 +7,7 @@ use mathlib.Core.Option.{Option, none, some}
 use mathlib.Core.List.{List, [], ◌∷◌}
 use lib.Dec.{eqb, leb, ltb}
 use lib.ListN.{length, get_or}
+use Rattle.std.specs.Prelude.{Result, Ok, Err}
 use borrow.Author.Tests.{eq-eqb, ne_eqb, le-leb, lt-leb, lt-ltb, le-ltb, eqb-true, eqb-false}
 use Rattle.documents.specs.declared.Refusal.{Refusal}
 use Rattle.documents.specs.declared.Refusal.TheVariants.{DoesNotPass}
@@ -14,13 +15,10 @@ use Rattle.documents.specs.Lists.{need, and_then}
 use Rattle.documents.specs.Instructions.{IS, ISABST, NEXT, CHECK, SET, EQVAR, EQIMM, EQI, CELL, LAMBDA, ADBMAL, PUSHVAR, PUSHIMM, PUSHI, Instruction, Program, Read, whole, opcode, before}
 use Rattle.documents.specs.Passing.{Slot, blocks, shut, one_term, build}
 use Rattle.documents.proofs.Lists.{never, case, on, off}
-use Rattle.instructions.specs.declared.Place.TheVariants as place
 use Rattle.instructions.specs.Places.{program_at, read_at, fetched}
 use Rattle.instructions.proofs.Reading.{read_opcode, fetched_op, program_plain, program_unfetched, program_done, read_cell, read_lambda, read_adbmal, read_pushvar, read_pushimm}
 use Rattle.checker.specs.declared.build.Ended.{Ended}
-use Rattle.checker.specs.declared.build.Terms.{Terms}
 use Rattle.checker.specs.declared.build.Ended.TheVariants as ended
-use Rattle.checker.specs.declared.build.Terms.TheVariants as terms
 use Rattle.checker.specs.Built.{terms_of, terms_at, makes_one, onward, ended_if}
 
 -- no match instruction in the build part
@@ -70,7 +68,7 @@ module _ (t : List ℕ) (e : ℕ) (es : List Slot) (inside : Bool) (l nest : ℕ
         → makes_one t e es inside l nest a hs ≡ goes_on (build es inside l nest i hs) (makes_one t e es inside l nest (a + 1 + m))
     makes_read i m hs o r = makes_before a (a + 1 + m) i hs (program_plain t a e lo hi o ∙ rw r)
 
-    pub makes_unfetched : (w : Refusal) (hs : List ℕ) → fetched t a e ≡ place.Refused w → makes_one t e es inside l nest a hs ≡ false
+    pub makes_unfetched : (w : Refusal) (hs : List ℕ) → fetched t a e ≡ Err w → makes_one t e es inside l nest a hs ≡ false
     makes_unfetched w hs p = makes_none a hs (program_unfetched t a e lo hi w p)
 
     pub makes_match : (hs : List ℕ) → get_or t a 0 ≤ 7 → makes_one t e es inside l nest a hs ≡ false
@@ -143,9 +141,9 @@ module _ (t : List ℕ) (e : ℕ) (es : List Slot) (inside : Bool) (l nest : ℕ
 
 -- ---- the terms after a CELL or PUSHVAR, whatever blocks are around
 
-abbrev pub terms_on : Terms → (ℕ → Bool) → Bool
-terms_on (terms.Of h) f = f h
-terms_on (terms.Refused w) f = false
+abbrev pub terms_on : Result ℕ Refusal → (ℕ → Bool) → Bool
+terms_on (Ok h) f = f h
+terms_on (Err w) f = false
 
 module _ (es : List Slot) (inside : Bool) (l nest L h : ℕ) (hs : List ℕ) (around : l + length hs ≡ L) (f : List ℕ → Bool) where
   cell_on : (s n : ℕ) → goes_on (build es inside l nest (CELL s n) (h ∷ hs)) f ≡ terms_on (terms_of (build [] false L 0 (CELL s n) (h ∷ []))) (λ k. f (k ∷ hs))
@@ -172,7 +170,7 @@ module _ (es : List Slot) (inside : Bool) (l nest L h : ℕ) (hs : List ℕ) (ar
 
 module _ (t : List ℕ) (a e : ℕ) (es : List Slot) (inside : Bool) (l nest L h : ℕ) (hs : List ℕ) (around : l + length hs ≡ L) (lo : a < e) (hi : e ≤ length t) where
   -- an instruction that is no LAMBDA, no ADBMAL and asks for no entry
-  pub makes_plain : (n : ℕ) → fetched t a e ≡ place.At n → (get_or t a 0 ≡ 10 → ⊥) → (get_or t a 0 ≡ 9 → ⊥) → get_or t a 0 ≤ 11
+  pub makes_plain : (n : ℕ) → fetched t a e ≡ Ok n → (get_or t a 0 ≡ 10 → ⊥) → (get_or t a 0 ≡ 9 → ⊥) → get_or t a 0 ≤ 11
       → makes_one t e es inside l nest a (h ∷ hs) ≡ terms_on (terms_at t a L h) (λ k. makes_one t e es inside l nest n (k ∷ hs))
   unfolding terms_at
   makes_plain n p w₁ w₂ w₃ =
@@ -202,64 +200,58 @@ module _ (t : List ℕ) (a e : ℕ) (es : List Slot) (inside : Bool) (l nest L h
 
 -- ---- the functions' own tests, in the code's order
 
-pub one_not : (h : ℕ) (r : Ended) → (h ≡ 1 → ⊥) → ended.Refused DoesNotPass ≡ ended_if (eqb h 1) r
+pub one_not : (h : ℕ) (r : Ended) → (h ≡ 1 → ⊥) → Err DoesNotPass ≡ ended_if (eqb h 1) r
 unfolding ended_if
 one_not h r n = rw (ne_eqb h 1 n)
 
-pub one_is : (h : ℕ) (r : Ended) → h ≡ 1 → r ≡ ended_if (eqb h 1) r
+pub one_is : (h : ℕ) (r : Ended) → h ≡ 1 → Ok r ≡ ended_if (eqb h 1) r
 unfolding ended_if
 one_is h r n = rw (eq-eqb h 1 n)
 
-pub open_not : (l nest : ℕ) → 63 ≤ l → false ≡ ltb l 63 && ltb nest 64
-open_not l nest h = rw (le-ltb l 63 h)
-
-pub open_is : (l nest : ℕ) → l < 63 → ltb nest 64 ≡ ltb l 63 && ltb nest 64
-open_is l nest h = rw (lt-ltb l 63 h)
-
 module _ (s n h : ℕ) where
-  abbrev pub Cell : Terms
+  abbrev pub Cell : Result ℕ Refusal
   Cell = terms_of (build [] false 0 0 (CELL s n) (h ∷ []))
 
-  pub cell_name : 65535 < s → terms.Refused DoesNotPass ≡ Cell
+  pub cell_name : 65535 < s → Err DoesNotPass ≡ Cell
   cell_name p = rw (lt-leb s 65535 p)
 
   module _ (p : s ≤ 65535) where
-    pub cell_count : 8 < n → terms.Refused DoesNotPass ≡ Cell
+    pub cell_count : 8 < n → Err DoesNotPass ≡ Cell
     cell_count q = rw (le-leb s 65535 p, lt-leb n 8 q)
 
-    pub cell_few : n ≤ 8 → h < n → terms.Refused DoesNotPass ≡ Cell
+    pub cell_few : n ≤ 8 → h < n → Err DoesNotPass ≡ Cell
     cell_few q r = rw (le-leb s 65535 p, le-leb n 8 q, lt-leb n h r)
 
-    pub cell_there : n ≤ 8 → n ≤ h → terms.Of (h - n + 1) ≡ Cell
+    pub cell_there : n ≤ 8 → n ≤ h → Ok (h - n + 1) ≡ Cell
     cell_there q r = rw (le-leb s 65535 p, le-leb n 8 q, le-leb n h r)
 
 module _ (t : List ℕ) (a l h : ℕ) where
-  pub terms_cell : (r : Terms) → get_or t a 0 ≡ 8 → r ≡ Cell (get_or t (a + 1) 0) (get_or t (a + 2) 0) h → r ≡ terms_at t a l h
+  pub terms_cell : (r : Result ℕ Refusal) → get_or t a 0 ≡ 8 → r ≡ Cell (get_or t (a + 1) 0) (get_or t (a + 2) 0) h → r ≡ terms_at t a l h
   unfolding terms_at
   terms_cell r o e = e ∙ rw o
 
   open_here : l + (1 - 1) ≡ l
   open_here = omega arith
 
-  pub terms_other : (get_or t a 0 ≡ 8 → ⊥) → (get_or t a 0 ≡ 11 → ⊥) → terms.Refused DoesNotPass ≡ terms_at t a l h
+  pub terms_other : (get_or t a 0 ≡ 8 → ⊥) → (get_or t a 0 ≡ 11 → ⊥) → Err DoesNotPass ≡ terms_at t a l h
   unfolding terms_at
   terms_other x y = rw (ne_eqb (get_or t a 0) 8 x, ne_eqb (get_or t a 0) 11 y)
 
-  pub terms_high : get_or t a 0 ≡ 11 → l ≤ get_or t (a + 1) 0 → terms.Refused DoesNotPass ≡ terms_at t a l h
+  pub terms_high : get_or t a 0 ≡ 11 → l ≤ get_or t (a + 1) 0 → Err DoesNotPass ≡ terms_at t a l h
   unfolding terms_at
   terms_high o k = rw (o, open_here, le-ltb (get_or t (a + 1) 0) l k)
 
-  pub terms_pushvar : get_or t a 0 ≡ 11 → get_or t (a + 1) 0 < l → terms.Of (h + 1) ≡ terms_at t a l h
+  pub terms_pushvar : get_or t a 0 ≡ 11 → get_or t (a + 1) 0 < l → Ok (h + 1) ≡ terms_at t a l h
   unfolding terms_at
   terms_pushvar o k = rw (o, open_here, lt-ltb (get_or t (a + 1) 0) l k)
 
 -- at most one term more
-pub terms_grow : (t : List ℕ) (a l h k : ℕ) → terms_at t a l h ≡ terms.Of k → k ≤ h + 1
+pub terms_grow : (t : List ℕ) (a l h k : ℕ) → terms_at t a l h ≡ Ok k → k ≤ h + 1
 unfolding terms_at
 terms_grow t a l h k e = first (eqb (get_or t a 0) 8) (eqb (get_or t a 0) 11) e
   where
     Bounded : Option (List ℕ) → Type 0
-    Bounded o = terms_of o ≡ terms.Of k → k ≤ h + 1
+    Bounded o = terms_of o ≡ Ok k → k ≤ h + 1
 
     needs : (q : Bool) (o : Option (List ℕ)) → Bounded o → Bounded (need q o)
     needs true o b = b
@@ -270,8 +262,29 @@ terms_grow t a l h k e = first (eqb (get_or t a 0) 8) (eqb (get_or t a 0) 11) e
 
     first : (x y : Bool)
         → cond x (terms_of (build [] false l 0 (CELL (get_or t (a + 1) 0) (get_or t (a + 2) 0)) (h ∷ [])))
-        (cond y (terms_of (build [] false l 0 (PUSHVAR (get_or t (a + 1) 0)) (h ∷ []))) (terms.Refused DoesNotPass))
-        ≡ terms.Of k → k ≤ h + 1
+        (cond y (terms_of (build [] false l 0 (PUSHVAR (get_or t (a + 1) 0)) (h ∷ []))) (Err DoesNotPass))
+        ≡ Ok k → k ≤ h + 1
     first true y = needs (leb (get_or t (a + 1) 0) 65535) _ (needs (leb (get_or t (a + 2) 0) 8) _ (needs (leb (get_or t (a + 2) 0) h) _ (made (h - get_or t (a + 2) 0 + 1) (omega arith))))
     first false true = needs (ltb (get_or t (a + 1) 0) (l + (1 - 1))) _ (made (h + 1) (omega arith))
     first false false = λ p. never (cc)
+
+-- refused with one refusal
+pub terms_refused : (t : List ℕ) (a l h : ℕ) (w : Refusal) → terms_at t a l h ≡ Err w → w ≡ DoesNotPass
+unfolding terms_at
+terms_refused t a l h w e = first (eqb (get_or t a 0) 8) (eqb (get_or t a 0) 11) e
+  where
+    Known : Result ℕ Refusal → Type 0
+    Known r = r ≡ Err w → w ≡ DoesNotPass
+
+    of : (o : Option (List ℕ)) → Known (terms_of o)
+    of none p = cc
+    of (some []) p = cc
+    of (some (k ∷ [])) p = never (cc)
+    of (some (k ∷ k₀ ∷ ks)) p = cc
+
+    first : (x y : Bool)
+        → Known (cond x (terms_of (build [] false l 0 (CELL (get_or t (a + 1) 0) (get_or t (a + 2) 0)) (h ∷ [])))
+        (cond y (terms_of (build [] false l 0 (PUSHVAR (get_or t (a + 1) 0)) (h ∷ []))) (Err DoesNotPass)))
+    first true y = of (build [] false l 0 (CELL (get_or t (a + 1) 0) (get_or t (a + 2) 0)) (h ∷ []))
+    first false true = of (build [] false l 0 (PUSHVAR (get_or t (a + 1) 0)) (h ∷ []))
+    first false false = λ p. cc

@@ -6,7 +6,8 @@ use mathlib.Core.Bool.{Bool, true, false, cond, and-false}
 use mathlib.Core.Option.{Option, none, some}
 use mathlib.Core.List.{List, [], ◌∷◌}
 use lib.Dec.{eqb, leb, ltb}
-use lib.ListN.{length, get_or, get_elem?, take, drop, set, replicate, length-replicate, length-set}
+use lib.ListN.{length, get_or, get_elem?, take, drop, replicate, length-replicate}
+use Rattle.std.specs.Prelude.{Result, Ok, Err}
 use borrow.Author.Tests.{eq-eqb, ne_eqb, le-leb, lt-leb, lt-ltb, le-ltb, eqb-true, eqb-false, ltb-true, leb-true}
 use Rattle.documents.specs.declared.Refusal.{Refusal}
 use Rattle.documents.specs.declared.Refusal.TheVariants.{DoesNotPass}
@@ -19,23 +20,20 @@ use Rattle.documents.specs.Passing.{Slot, slot, with_slot, covers, seconds, all_
 use Rattle.documents.proofs.Lists.{never, case, on, off, T_of, of_and}
 use Rattle.instructions.specs.Places.{program_at, read_at}
 use Rattle.instructions.proofs.Reading.{First, read_opcode, read_within, read_check, program_plain, program_first, program_done}
-use Rattle.indices.specs.Sets.{gathered}
+use Rattle.indices.specs.Sets.{members, gathered}
 use Rattle.turns.specs.declared.Turned.{Turned}
 use Rattle.turns.specs.declared.entries.Entries.{Entries}
-use Rattle.turns.specs.declared.Turned.TheVariants as turned
-use Rattle.turns.specs.Held.{stacked, slots, entries_of, Low, Sound}
-use Rattle.turns.specs.Turns.{is_there, allowed, terms_put, depth_put, turn_if, turn_by, turn_at}
+use Rattle.turns.specs.Held.{stacked, entries_of}
+use Rattle.turns.specs.Turns.{is_there, allowed, terms_put, depth_put, turned, turn_if, turn_by, turn_at}
 use Rattle.turns.proofs.Turning.{turn_read, turn_none, Ranged, turn_range, needed_there}
-use Rattle.turns.proofs.Entered.{entries_length, slots_more}
-use Rattle.checker.specs.declared.Checked.{Checked}
-use Rattle.checker.specs.declared.Checked.TheVariants.{Passes, Refused}
+use Rattle.turns.proofs.Entered.{entries_length}
 use Rattle.checker.specs.declared.build.Ended.{Ended}
 use Rattle.checker.specs.declared.build.Ended.TheVariants as ended
 use Rattle.checker.specs.Matched.{passes_at, verdict, BuildsAt, list_behind, Listing}
 use Rattle.checker.specs.Built.{makes_one, onward, Ends}
 use Rattle.checker.proofs.Ending.{not_done_lem}
 use Rattle.checker.proofs.Told.{all_told, length_told, build_told, turn_told}
-use Rattle.checker.proofs.Current.{stacked_length, stacked_top, replaced, stacked_replaced, length_replaced, low_replicate, low_replaced, low_set}
+use Rattle.checker.proofs.Current.{stacked_length, stacked_top, replaced, stacked_replaced, length_replaced, Low, low_replicate, low_replaced}
 
 -- ---- an instruction's effect, where it is allowed
 
@@ -134,9 +132,9 @@ listed_small (PUSHI e D a) d below es l h = refl
 
 -- ---- from instruction to instruction
 
-abbrev pub turned_on : Turned → (ℕ → ℕ → ℕ → Bool) → Bool
-turned_on (turned.To p n d) f = f p n d
-turned_on (turned.Refused w) f = false
+abbrev pub turned_on : Result Turned Refusal → (ℕ → ℕ → ℕ → Bool) → Bool
+turned_on (Ok u) f = f u.next u.terms u.depth
+turned_on (Err w) f = false
 
 module _ (t : List ℕ) (a : ℕ) (lo : a < length t) where
   -- the match instruction that is read, before the rest
@@ -189,15 +187,15 @@ module _ (t : List ℕ) (a : ℕ) (lo : a < length t) where
       there false q = never (cc)
 
   -- it lies within the code, and its indices are below 64
-  pub turn_listing : (d below : ℕ) (es : List Slot) (p n b : ℕ) → d ≤ 63 → turned.To p n b ≡ turn_at t a d below es → Listing t a
+  pub turn_listing : (d below : ℕ) (es : List Slot) (p n b : ℕ) → d ≤ 63 → turned p n b ≡ turn_at t a d below es → Listing t a
   unfolding turn_at list_behind
   turn_listing d below es p n b l h o = go (read_at t a (length t)) refl (sym h)
     where
-      go : (u : Option Read) → read_at t a (length t) ≡ u → turn_by u a d below es ≡ turned.To p n b
+      go : (u : Option Read) → read_at t a (length t) ≡ u → turn_by u a d below es ≡ turned p n b
           → (a + 2 + get_or t (a + 1) 0 ≤ length t) × (all_below 64 (take (get_or t (a + 1) 0) (drop (a + 2) t)) ≡ true)
       go none r q = never (cc)
       go (some (whole i m)) r q =
-          case (λ x. turn_if x (a + 1 + m) (terms_put i) (depth_put i d) ≡ turned.To p n b
+          case (λ x. turn_if x (a + 1 + m) (terms_put i) (depth_put i d) ≡ turned p n b
           → (a + 2 + get_or t (a + 1) 0 ≤ length t) × (all_below 64 (take (get_or t (a + 1) 0) (drop (a + 2) t)) ≡ true)) (allowed i d below es)
           (λ y s.
           let k : a + 1 + 1 ≤ length t = rw o at (read_within t a (length t) i m lo r).0 in
@@ -282,43 +280,37 @@ pub record Matched (t current : List ℕ) (terms : ℕ) (n : Entries) (guard a :
   pub many : terms ≤ 256
   pub whole_current : length current ≡ 256
   pub low : Low current
-  pub sound : Sound n
-  pub whole_depths : length n.depths ≡ 16
-  pub whole_guards : length n.guards ≡ 16
   pub within : a ≤ length t
 
-pub matched_from : (t : List ℕ) → Matched t (replicate 256 0) 1 (record { count = 0; depths = replicate 16 0; guards = replicate 16 0 }) 0 0
-unfolding stacked slots gathered
-matched_from t = record {
+pub matched_from : (t : List ℕ) (n : Entries) → entries_of n ≡ [] → Matched t (replicate 256 0) 1 n 0 0
+unfolding stacked gathered
+matched_from t n e = record {
   es = [];
   g = [];
   same = refl;
-  held = refl;
+  held = e;
   guarded = refl;
   many = omega arith;
   whole_current = refl;
   low = low_replicate 256 (omega arith);
-  sound = record { few = omega arith; depths = low_replicate 16 (omega arith) };
-  whole_depths = refl;
-  whole_guards = refl;
   within = omega arith;
 }
 
 module _ {t current : List ℕ} {terms : ℕ} {n : Entries} {guard a : ℕ} (m : Matched t current terms n guard a) where
-  pub matched_ended : length t ≤ a → Refused DoesNotPass ≡ verdict (passes_at t 0 (matching (0 ∷ []) [] []))
+  pub matched_ended : length t ≤ a → Err DoesNotPass ≡ verdict (passes_at t 0 (matching (0 ∷ []) [] []))
   matched_ended h =
       let w = m.within in
       rw (m.same ∙ passes_ended t a (matching (stacked terms current) m.es m.g) (omega arith))
 
   module _ (lo : a < length t) where
-    pub matched_builds : {r : Checked} → 7 < get_or t a 0 → BuildsAt t a terms (entries_of n) r → r ≡ verdict (passes_at t 0 (matching (0 ∷ []) [] []))
+    pub matched_builds : {r : Result (Unit {0}) Refusal} → 7 < get_or t a 0 → BuildsAt t a terms (entries_of n) r → r ≡ verdict (passes_at t 0 (matching (0 ∷ []) [] []))
     matched_builds w b =
         b.means (stacked terms current) m.g (stacked_length terms current)
         ∙ ap verdict (ap (λ (l : List Slot). passes_at t a (matching (stacked terms current) l m.g)) m.held
         ∙ builds_told t a (stacked terms current) m.es m.g lo w ∙ sym m.same)
 
     module _ (w : get_or t a 0 ≤ 7) where
-      pub matched_bare : terms ≡ 0 → Refused DoesNotPass ≡ verdict (passes_at t 0 (matching (0 ∷ []) [] []))
+      pub matched_bare : terms ≡ 0 → Err DoesNotPass ≡ verdict (passes_at t 0 (matching (0 ∷ []) [] []))
       unfolding stacked
       matched_bare z = rw (m.same ∙ ap (λ (k : ℕ). passes_at t a (matching (stacked k current) m.es m.g)) z ∙ passes_bare t a lo m.es m.g w)
 
@@ -340,13 +332,13 @@ module _ {t current : List ℕ} {terms : ℕ} {n : Entries} {guard a : ℕ} (m :
         top_low = rw top (m.low.low (terms - 1))
 
         -- what the function gave is what 01's state asks for
-        real : {r : Turned} → r ≡ turn_at t a d (terms - 1) (entries_of n) → r ≡ turn_at t a d (terms - 1) m.es
+        real : {r : Result Turned Refusal} → r ≡ turn_at t a d (terms - 1) (entries_of n) → r ≡ turn_at t a d (terms - 1) m.es
         real q = q ∙ ap (turn_at t a d (terms - 1)) m.held ∙ turn_told t a d (terms - 1) m.es
 
-        pub matched_refused : {r : Turned} (v : Refusal) → r ≡ turn_at t a d (terms - 1) (entries_of n) → r ≡ turned.Refused v → Refused DoesNotPass ≡ verdict (passes_at t 0 (matching (0 ∷ []) [] []))
+        pub matched_refused : {r : Result Turned Refusal} (v : Refusal) → r ≡ turn_at t a d (terms - 1) (entries_of n) → r ≡ Err v → Err DoesNotPass ≡ verdict (passes_at t 0 (matching (0 ∷ []) [] []))
         matched_refused v q e = rw (turned_to, sym (real q), e)
 
-        module _ {r : Turned} {p c b : ℕ} (q : r ≡ turn_at t a d (terms - 1) (entries_of n)) (e : r ≡ turned.To p c b) where
+        module _ {r : Result Turned Refusal} {p c b : ℕ} (q : r ≡ turn_at t a d (terms - 1) (entries_of n)) (e : r ≡ turned p c b) where
           pub ranged : Ranged t a (terms - 1) m.es p c b
           ranged = let u = m.many in turn_range d lo w (omega arith) top_low (sym e ∙ real q)
 
@@ -385,46 +377,36 @@ module _ {t current : List ℕ} {terms : ℕ} {n : Entries} {guard a : ℕ} (m :
               many = ranged.current;
               whole_current = new_length;
               low = new_low;
-              sound = m.sound;
-              whole_depths = m.whole_depths;
-              whole_guards = m.whole_guards;
               within = ranged.within;
             }
 
             -- SET
             module _ (o : get_or t a 0 ≡ 4) where
-              pub matched_set : Matched t new (terms - 1 + c) (record { count = n.count + 1; depths = set n.depths n.count d; guards = set n.guards n.count guard }) 0 p
+              pub matched_set : {new_entries : Entries} → entries_of new_entries ≡ slot d (members guard) ∷ entries_of n → Matched t new (terms - 1 + c) new_entries 0 p
               unfolding list_behind gathered
-              matched_set =
-                  let u = room o in
-                  let x = m.whole_depths in
-                  let y = m.whole_guards in
-                  record {
-                    es = slot d m.g ∷ m.es;
-                    g = [];
-                    same = after ∙ rw o;
-                    held = slots_more n.count n.depths n.guards d guard (omega arith) (omega arith) ∙ rw (m.held, m.guarded);
-                    guarded = refl;
-                    many = ranged.current;
-                    whole_current = new_length;
-                    low = new_low;
-                    sound = record { few = omega arith; depths = low_set n.count m.sound.depths top_low };
-                    whole_depths = length-set n.depths n.count d ∙ x;
-                    whole_guards = length-set n.guards n.count guard ∙ y;
-                    within = ranged.within;
-                  }
+              matched_set x = record {
+                es = slot d m.g ∷ m.es;
+                g = [];
+                same = after ∙ rw o;
+                held = x ∙ rw (m.held, m.guarded);
+                guarded = refl;
+                many = ranged.current;
+                whole_current = new_length;
+                low = new_low;
+                within = ranged.within;
+              }
 
 -- ---- the build part, whatever is still current
 
 module _ {t : List ℕ} {a terms : ℕ} {es : List Slot} (lo : a < length t) (w : 7 < get_or t a 0) where
-  pub builds_many : (terms ≡ 0 → ⊥) → BuildsAt t a terms es (Refused DoesNotPass)
+  pub builds_many : (terms ≡ 0 → ⊥) → BuildsAt t a terms es (Err DoesNotPass)
   builds_many z = record { means = go }
     where
-      go : (ds g : List ℕ) → length ds ≡ terms → Refused DoesNotPass ≡ verdict (passes_at t a (matching ds es g))
+      go : (ds g : List ℕ) → length ds ≡ terms → Err DoesNotPass ≡ verdict (passes_at t a (matching ds es g))
       go [] g e = absurd (z (sym e))
       go (d ∷ ds) g e = rw (builds_left t a lo d ds es g w)
 
-  module _ (z : terms ≡ 0) {r : Ended} (s : Ends t a (length t) es 0 0 false r) where
+  module _ (z : terms ≡ 0) {r : Result Ended Refusal} (s : Ends t a (length t) es 0 0 false r) where
     builds_by : (q : Bool) → onward r (makes_one t (length t) es false 0 0) [] ≡ q → BuildsAt t a terms es (verdict q)
     builds_by q p = record { means = go }
       where
@@ -432,18 +414,18 @@ module _ {t : List ℕ} {a terms : ℕ} {es : List Slot} (lo : a < length t) (w 
         go [] g e = sym (ap verdict (builds_here t a lo es g w ∙ s.means 0 0 [] refl refl ∙ p))
         go (d ∷ ds) g e = absurd (omega arith)
 
-    pub builds_not : (r ≡ ended.Done → ⊥) → BuildsAt t a terms es (Refused DoesNotPass)
+    pub builds_not : (r ≡ Ok ended.Done → ⊥) → BuildsAt t a terms es (Err DoesNotPass)
     builds_not n = builds_by false (not_done_lem r n (makes_one t (length t) es false 0 0))
 
-    pub builds_done : r ≡ ended.Done → BuildsAt t a terms es Passes
+    pub builds_done : r ≡ Ok ended.Done → BuildsAt t a terms es (Ok tt)
     builds_done e = builds_by true (rw e)
 
 -- ---- the whole
 
-pub passes_long : (t : List ℕ) → 4096 < length t → Refused DoesNotPass ≡ verdict (passes t)
+pub passes_long : (t : List ℕ) → 4096 < length t → Err DoesNotPass ≡ verdict (passes t)
 passes_long t h = rw (lt-leb (length t) 4096 h, and-false (leb 1 (length t)))
 
-pub passes_is : (t : List ℕ) {r : Checked} → length t ≤ 4096 → r ≡ verdict (passes_at t 0 (matching (0 ∷ []) [] [])) → r ≡ verdict (passes t)
+pub passes_is : (t : List ℕ) {r : Result (Unit {0}) Refusal} → length t ≤ 4096 → r ≡ verdict (passes_at t 0 (matching (0 ∷ []) [] [])) → r ≡ verdict (passes t)
 passes_is [] h e = e ∙ ap verdict (passes_ended [] 0 (matching (0 ∷ []) [] []) refl)
 passes_is (x ∷ t) h e =
     let z : length (x ∷ t) - 0 ≡ length (x ∷ t) = omega arith in
@@ -451,31 +433,31 @@ passes_is (x ∷ t) h e =
 
 -- ---- 01's number
 
-pub number_passes : (t : List ℕ) {r : Checked} → r ≡ verdict (passes t) → r ≡ Passes → 0 ≡ check_call t
+pub number_passes : (t : List ℕ) {r : Result (Unit {0}) Refusal} → r ≡ verdict (passes t) → r ≡ Ok tt → 0 ≡ check_call t
 unfolding check_call
 number_passes t {r} e p = go (passes t) (sym p ∙ e)
   where
-    go : (q : Bool) → Passes ≡ verdict q → ◌≡◌ {A = ℕ} 0 (cond q 0 11)
+    go : (q : Bool) → Ok tt ≡ verdict q → ◌≡◌ {A = ℕ} 0 (cond q 0 11)
     go true e = refl
     go false e = never (cc)
 
-pub number_refused : (t : List ℕ) {r : Checked} (w : Refusal) → r ≡ verdict (passes t) → r ≡ Refused w → number_of w ≡ check_call t
+pub number_refused : (t : List ℕ) {r : Result (Unit {0}) Refusal} (w : Refusal) → r ≡ verdict (passes t) → r ≡ Err w → number_of w ≡ check_call t
 unfolding check_call
 number_refused t {r} w e p = go (passes t) (sym p ∙ e)
   where
-    go : (q : Bool) → Refused w ≡ verdict q → number_of w ≡ cond q 0 11
+    go : (q : Bool) → Err w ≡ verdict q → number_of w ≡ cond q 0 11
     go true e = never (cc)
     go false e = let z : w ≡ DoesNotPass = cc in rw z
 
 -- what a caller knows of code that does not pass
-pub not_passed : {w : Refusal} (q : Bool) → Refused w ≡ verdict q → q ≡ false
+pub not_passed : {w : Refusal} (q : Bool) → Err w ≡ verdict q → q ≡ false
 not_passed true e = never (cc)
 not_passed false e = refl
 
 -- what a caller knows of code that passes
-pub verdict_passes : (code : List ℕ) {r : Checked} → r ≡ verdict (passes code) → r ≡ Passes → passes code ≡ true
+pub verdict_passes : (code : List ℕ) {r : Result (Unit {0}) Refusal} → r ≡ verdict (passes code) → r ≡ Ok tt → passes code ≡ true
 verdict_passes code e f = go (passes code) (sym f ∙ e)
   where
-    go : (q : Bool) → Passes ≡ verdict q → q ≡ true
+    go : (q : Bool) → Ok tt ≡ verdict q → q ≡ true
     go true e = refl
     go false e = never (cc)

@@ -7,24 +7,23 @@ use mathlib.Core.Option.{Option, none, some}
 use mathlib.Core.List.{List, [], ◌∷◌}
 use lib.Dec.{eqb, leb, ltb}
 use lib.ListN.{length, get_or, get_elem?, drop}
-use borrow.Author.Tests.{eq-eqb, ne_eqb, le-leb, lt-leb, lt-ltb, le-ltb, ltb-true, ltb-false}
+use Rattle.std.specs.Prelude.{Result, Ok, Err, Some}
+use borrow.Author.Tests.{eq-eqb, ne_eqb, le-leb, lt-leb, lt-ltb, le-ltb}
 use Rattle.documents.specs.declared.Refusal.{Refusal}
 use Rattle.documents.specs.declared.Refusal.TheVariants.{DoesNotPass}
 use Rattle.documents.specs.Lists.{need, and_then}
 use Rattle.documents.specs.Instructions.{PUSHI, Program, Bodies, ReadBodies, whole_bodies, body_count, keys, body_then}
 use Rattle.documents.specs.Passing.{Slot, slot, with_slot, covers, all_below, one_term, build}
-use Rattle.documents.proofs.Lists.{never, case, on, off}
-use Rattle.instructions.specs.declared.Place.{Place}
-use Rattle.instructions.specs.declared.Place.TheVariants as place
+use Rattle.documents.proofs.Lists.{never, case}
 use Rattle.instructions.specs.Places.{program_at, bodies_at, place_if}
 use Rattle.instructions.proofs.Reading.{bodies_left, bodies_count, bodies_done, bodies_short, bodies_step, program_push}
 use Rattle.indices.specs.Sets.{inserted, gathered, full}
 use Rattle.indices.proofs.Covers.{covers_members}
 use Rattle.turns.specs.declared.entries.Entries.{Entries}
-use Rattle.turns.specs.declared.entries.Found.TheVariants as found
+use Rattle.turns.specs.declared.entries.Entry.{Entry}
 use Rattle.turns.specs.Held.{entries_of, found_in}
 use Rattle.turns.specs.Turns.{is_there}
-use Rattle.turns.proofs.Entered.{found_missing, found_entry, found_none, found_slot}
+use Rattle.turns.proofs.Entered.{found_slot}
 use Rattle.turns.proofs.Turning.{slot_test}
 use Rattle.checker.specs.Built.{place_behind, bodies_obey, push_obeys, entry_obeys, makes_one}
 use Rattle.checker.proofs.Making.{goes_on, makes_none, makes_before, makes_pushimm}
@@ -32,10 +31,10 @@ use Rattle.checker.proofs.Making.{goes_on, makes_none, makes_before, makes_pushi
 -- ---- bodies, one after the other
 
 -- what one body asks, and what the others ask
-abbrev pub allow : Bool → Place → Place
-allow q p = cond q p (place.Refused DoesNotPass)
+abbrev pub allow : Bool → Result ℕ Refusal → Result ℕ Refusal
+allow q p = cond q p (Err DoesNotPass)
 
-allow_refused : (q : Bool) → place.Refused DoesNotPass ≡ allow q (place.Refused DoesNotPass)
+allow_refused : (q : Bool) → Err DoesNotPass ≡ allow q (Err DoesNotPass)
 allow_refused true = refl
 allow_refused false = refl
 
@@ -51,7 +50,7 @@ module _ (t : List ℕ) (e : ℕ) (es : List Slot) (l nest b : ℕ) where
   obey_done a m h = let z : e - (e - a) ≡ a = omega arith in rw (bodies_done t a e, and-true (full m b), z)
 
   module _ (a c m : ℕ) where
-    pub obey_short : e < a + 2 + get_or t (a + 1) 0 → bodies_obey t a e (suc c) es l nest b m ≡ place.Refused DoesNotPass
+    pub obey_short : e < a + 2 + get_or t (a + 1) 0 → bodies_obey t a e (suc c) es l nest b m ≡ Err DoesNotPass
     unfolding bodies_obey
     obey_short h = rw (bodies_short t a e c h)
 
@@ -79,7 +78,7 @@ behind_same : (o : Option ReadBodies) (e : ℕ) (f g : Bodies → Bool) → ((a 
 behind_same none e f g h = refl
 behind_same (some (whole_bodies a m)) e f g h = ap (λ q. place_if q (e - m)) (h a m refl)
 
-behind_never : (o : Option ReadBodies) (e : ℕ) (f : Bodies → Bool) → ((a : Bodies) (m : ℕ) → o ≡ some (whole_bodies a m) → f a ≡ false) → place_behind o e f ≡ place.Refused DoesNotPass
+behind_never : (o : Option ReadBodies) (e : ℕ) (f : Bodies → Bool) → ((a : Bodies) (m : ℕ) → o ≡ some (whole_bodies a m) → f a ≡ false) → place_behind o e f ≡ Err DoesNotPass
 behind_never none e f h = refl
 behind_never (some (whole_bodies a m)) e f h = rw (h a m refl)
 
@@ -117,20 +116,26 @@ module _ (t : List ℕ) (a e : ℕ) (es : List Slot) (l nest : ℕ) where
       ap is_there (push_build es false l nest l nest (get_or t a 0) (get_or t (a + 1) 0) o 0 [] (omega arith) (omega arith))
       ∙ there_if (slot_test (get_elem? es (get_or t a 0)) (push_test es (get_or t (a + 1) 0) l nest o)) (1 ∷ []))
 
-pub push_absent : (t : List ℕ) (a e : ℕ) (es : List Slot) (l nest : ℕ) → get_elem? es (get_or t a 0) ≡ none → push_obeys t a e es l nest ≡ place.Refused DoesNotPass
+pub push_absent : (t : List ℕ) (a e : ℕ) (es : List Slot) (l nest : ℕ) → get_elem? es (get_or t a 0) ≡ none → push_obeys t a e es l nest ≡ Err DoesNotPass
 push_absent t a e es l nest f = push_is t a e es l nest ∙ behind_never (bodies_at t (a + 3) e (get_or t (a + 2) 0)) e _ (λ o m r. rw f)
 
 module _ (t : List ℕ) (a e : ℕ) (n : Entries) (l nest : ℕ) where
-  module _ (b g : ℕ) (f : found_in n (get_or t a 0) ≡ found.Entry b g) where
-    pub push_other : (get_or t (a + 1) 0 + b ≡ l + 64 → ⊥) → place.Refused DoesNotPass ≡ push_obeys t a e (entries_of n) l nest
-    push_other q = sym (push_is t a e (entries_of n) l nest ∙ behind_never (bodies_at t (a + 3) e (get_or t (a + 2) 0)) e _
-        (λ o m r. rw (found_slot n (get_or t a 0) b g f, ne_eqb (get_or t (a + 1) 0 + b) (l + 64) q)))
+  module _ (x : Entry) (f : found_in n (get_or t a 0) ≡ Some x) where
+    abbrev b : ℕ
+    b = x.depth
 
-    pub push_many : 8 < get_or t (a + 2) 0 → place.Refused DoesNotPass ≡ push_obeys t a e (entries_of n) l nest
+    abbrev g : ℕ
+    g = x.guard
+
+    pub push_other : (get_or t (a + 1) 0 + b ≡ l + 64 → ⊥) → Err DoesNotPass ≡ push_obeys t a e (entries_of n) l nest
+    push_other q = sym (push_is t a e (entries_of n) l nest ∙ behind_never (bodies_at t (a + 3) e (get_or t (a + 2) 0)) e _
+        (λ o m r. rw (found_slot n (get_or t a 0) x f, ne_eqb (get_or t (a + 1) 0 + b) (l + 64) q)))
+
+    pub push_many : 8 < get_or t (a + 2) 0 → Err DoesNotPass ≡ push_obeys t a e (entries_of n) l nest
     push_many h = sym (push_is t a e (entries_of n) l nest ∙ behind_never (bodies_at t (a + 3) e (get_or t (a + 2) 0)) e _
         (λ o m r.
         let c = bodies_count (drop (a + 3) t) 0 (e - (a + 3)) (get_or t (a + 2) 0) o m r in
-        rw (found_slot n (get_or t a 0) b g f, c, lt-leb (get_or t (a + 2) 0) 8 h, and-false (eqb (get_or t (a + 1) 0 + b) (l + 64)))))
+        rw (found_slot n (get_or t a 0) x f, c, lt-leb (get_or t (a + 2) 0) 8 h, and-false (eqb (get_or t (a + 1) 0 + b) (l + 64)))))
 
     pub push_bodies : get_or t (a + 1) 0 + b ≡ l + 64 → get_or t (a + 2) 0 ≤ 8
         → bodies_obey t (a + 3) e (get_or t (a + 2) 0) (entries_of n) l nest b g ≡ push_obeys t a e (entries_of n) l nest
@@ -139,7 +144,7 @@ module _ (t : List ℕ) (a e : ℕ) (n : Entries) (l nest : ℕ) where
         (λ o j r.
         let c = bodies_count (drop (a + 3) t) 0 (e - (a + 3)) (get_or t (a + 2) 0) o j r in
         rw (
-          found_slot n (get_or t a 0) b g f,
+          found_slot n (get_or t a 0) x f,
           c,
           le-leb (get_or t (a + 2) 0) 8 h,
           eq-eqb (get_or t (a + 1) 0 + b) (l + 64) q,
@@ -149,23 +154,23 @@ module _ (t : List ℕ) (a e : ℕ) (n : Entries) (l nest : ℕ) where
 
 -- ---- where it ends, and what it makes
 
-behind_range : (t : List ℕ) (a e c : ℕ) (f : Bodies → Bool) (p : ℕ) → place_behind (bodies_at t a e c) e f ≡ place.At p → a ≤ e → (a ≤ p) × (p ≤ e)
+behind_range : (t : List ℕ) (a e c : ℕ) (f : Bodies → Bool) (p : ℕ) → place_behind (bodies_at t a e c) e f ≡ Ok p → a ≤ e → (a ≤ p) × (p ≤ e)
 behind_range t a e c f p h k = go (bodies_at t a e c) refl h
   where
-    go : (o : Option ReadBodies) → bodies_at t a e c ≡ o → place_behind o e f ≡ place.At p → (a ≤ p) × (p ≤ e)
+    go : (o : Option ReadBodies) → bodies_at t a e c ≡ o → place_behind o e f ≡ Ok p → (a ≤ p) × (p ≤ e)
     go none q r = never (cc)
     go (some (whole_bodies o m)) q r =
         let l = bodies_left (drop a t) 0 (e - a) c o m q in
-        case (λ x. place_if x (e - m) ≡ place.At p → (a ≤ p) × (p ≤ e)) (f o)
+        case (λ x. place_if x (e - m) ≡ Ok p → (a ≤ p) × (p ≤ e)) (f o)
         (λ y s. let z : e - m ≡ p = cc in (omega arith, omega arith)) (λ y s. never (cc)) r
 
-pub push_range : (t : List ℕ) (a e : ℕ) (es : List Slot) (l nest p : ℕ) → push_obeys t a e es l nest ≡ place.At p → a + 3 ≤ e → (a + 3 ≤ p) × (p ≤ e)
+pub push_range : (t : List ℕ) (a e : ℕ) (es : List Slot) (l nest p : ℕ) → push_obeys t a e es l nest ≡ Ok p → a + 3 ≤ e → (a + 3 ≤ p) × (p ≤ e)
 unfolding push_obeys
 push_range t a e es l nest p h k = behind_range t (a + 3) e (get_or t (a + 2) 0) _ p h k
 
-abbrev pub place_on : Place → (ℕ → Bool) → Bool
-place_on (place.At p) f = f p
-place_on (place.Refused w) f = false
+abbrev pub place_on : Result ℕ Refusal → (ℕ → Bool) → Bool
+place_on (Ok p) f = f p
+place_on (Err w) f = false
 
 module _ (t : List ℕ) (a e : ℕ) (es : List Slot) (inside : Bool) (l nest L N h : ℕ) (hs : List ℕ) (lo : a + 4 ≤ e) (hi : e ≤ length t) where
   pub makes_push : get_or t a 0 ≡ 13 → l + length hs ≡ L → nest + length hs ≡ N
@@ -206,44 +211,39 @@ module _ (t : List ℕ) (a e : ℕ) (es : List Slot) (inside : Bool) (l nest L h
 -- ---- either, by the opcode before its operands
 
 module _ (t : List ℕ) (a e : ℕ) (es : List Slot) (l nest b : ℕ) where
-  pub entry_whole : (r : Place) → get_or t (a - 1) 0 ≡ 12 → r ≡ place_if (not (ltb l nest) && eqb l b) (a + 1) → r ≡ entry_obeys t a e es l nest b
+  pub entry_whole : (r : Result ℕ Refusal) → get_or t (a - 1) 0 ≡ 12 → r ≡ place_if (not (ltb l nest) && eqb l b) (a + 1) → r ≡ entry_obeys t a e es l nest b
   unfolding entry_obeys
   entry_whole r o q = q ∙ rw (eq-eqb (get_or t (a - 1) 0) 12 o)
 
-  pub entry_push : (r : Place) → (get_or t (a - 1) 0 ≡ 12 → ⊥) → r ≡ push_obeys t a e es l nest → r ≡ entry_obeys t a e es l nest b
+  pub entry_push : (r : Result ℕ Refusal) → (get_or t (a - 1) 0 ≡ 12 → ⊥) → r ≡ push_obeys t a e es l nest → r ≡ entry_obeys t a e es l nest b
   unfolding entry_obeys
   entry_push r o q = q ∙ rw (ne_eqb (get_or t (a - 1) 0) 12 o)
 
 -- in a body; another depth; the entry as it is
-pub whole_inside : (l nest b p : ℕ) → l < nest → place.Refused DoesNotPass ≡ place_if (not (ltb l nest) && eqb l b) p
+pub whole_inside : (l nest b p : ℕ) → l < nest → Err DoesNotPass ≡ place_if (not (ltb l nest) && eqb l b) p
 whole_inside l nest b p h = rw (lt-ltb l nest h)
 
-pub whole_other : (l nest b p : ℕ) → nest ≤ l → (l ≡ b → ⊥) → place.Refused DoesNotPass ≡ place_if (not (ltb l nest) && eqb l b) p
+pub whole_other : (l nest b p : ℕ) → nest ≤ l → (l ≡ b → ⊥) → Err DoesNotPass ≡ place_if (not (ltb l nest) && eqb l b) p
 whole_other l nest b p h n = rw (le-ltb l nest h, ne_eqb l b n)
 
-pub whole_there : (l nest b p : ℕ) → nest ≤ l → l ≡ b → place.At p ≡ place_if (not (ltb l nest) && eqb l b) p
+pub whole_there : (l nest b p : ℕ) → nest ≤ l → l ≡ b → Ok p ≡ place_if (not (ltb l nest) && eqb l b) p
 whole_there l nest b p h n = rw (le-ltb l nest h, eq-eqb l b n)
 
-pub entry_place : (x c : ℕ) → x < c → place.At (c - 1 - x) ≡ place_if (ltb x c) (c - 1 - x)
-entry_place x c h = rw (lt-ltb x c h)
+-- ---- refused with one refusal
 
-pub entry_missing : (x c : ℕ) → c ≤ x → place.Refused DoesNotPass ≡ place_if (ltb x c) (c - 1 - x)
-entry_missing x c h = rw (le-ltb x c h)
+module _ (w : Refusal) where
+  if_refused : (q : Bool) (p : ℕ) → place_if q p ≡ Err w → w ≡ DoesNotPass
+  if_refused true p e = never (cc)
+  if_refused false p e = cc
 
--- what the place of an entry says
-module _ (n : Entries) (x : ℕ) where
-  pub entry_found : (i : ℕ) → place_if (ltb x n.count) (n.count - 1 - x) ≡ place.At i
-      → (i < n.count) × (found_in n x ≡ found.Entry (get_or n.depths i 0) (get_or n.guards i 0))
-  entry_found i e =
-      case (λ q. place_if q (n.count - 1 - x) ≡ place.At i → (i < n.count) × (found_in n x ≡ found.Entry (get_or n.depths i 0) (get_or n.guards i 0)))
-      (ltb x n.count)
-      (λ y p.
-      let h = ltb-true x n.count (on _ y) in
-      let z : n.count - 1 - x ≡ i = cc in
-      (omega arith, sym (found_entry n x h) ∙ rw z))
-      (λ y p. never (cc)) e
+  behind_refused : (o : Option ReadBodies) (e : ℕ) (f : Bodies → Bool) → place_behind o e f ≡ Err w → w ≡ DoesNotPass
+  behind_refused none e f r = cc
+  behind_refused (some (whole_bodies a m)) e f r = if_refused (f a) (e - m) r
 
-  pub entry_absent : (w : Refusal) → place_if (ltb x n.count) (n.count - 1 - x) ≡ place.Refused w → get_elem? (entries_of n) x ≡ none
-  entry_absent w e =
-      case (λ q. place_if q (n.count - 1 - x) ≡ place.Refused w → get_elem? (entries_of n) x ≡ none) (ltb x n.count)
-      (λ y p. never (cc)) (λ y p. found_none n x (sym (found_missing n x (ltb-false x n.count (off _ y))))) e
+  pub entry_refused : (t : List ℕ) (a e : ℕ) (es : List Slot) (l nest b : ℕ) → entry_obeys t a e es l nest b ≡ Err w → w ≡ DoesNotPass
+  unfolding entry_obeys push_obeys
+  entry_refused t a e es l nest b = go (eqb (get_or t (a - 1) 0) 12)
+    where
+      go : (q : Bool) → cond q (place_if (not (ltb l nest) && eqb l b) (a + 1)) (push_obeys t a e es l nest) ≡ Err w → w ≡ DoesNotPass
+      go true r = if_refused (not (ltb l nest) && eqb l b) (a + 1) r
+      go false r = behind_refused (bodies_at t (a + 3) e (get_or t (a + 2) 0)) e _ r

@@ -1,22 +1,21 @@
 -- The match part, and the whole (document 01, 'When code passes').
-use Rattle.std.specs.Prelude.{◌≡◌, ℕ, ◌+◌, ◌≤◌, Bool, true, false, cond, List, [], eqb, length, get_or, take, drop}
+use Rattle.std.specs.Prelude.{◌≡◌, ℕ, ◌+◌, ◌≤◌, Bool, true, false, cond, List, [], eqb, length, get_or, take, drop, Result, Ok, Err}
+use Rattle.documents.specs.declared.Refusal.{Refusal}
 use Rattle.documents.specs.declared.Refusal.TheVariants.{DoesNotPass}
 use Rattle.documents.specs.Instructions.{op_check}
 use Rattle.documents.specs.Passing.{Slot, all_below, Matching, matching, parts, and_then_holds}
 use Rattle.instructions.specs.Places.{program_at}
-use Rattle.checker.specs.declared.Checked.{Checked}
-use Rattle.checker.specs.declared.Checked.TheVariants.{Passes, Refused}
 
 -- whether code passes from place a on, in the match part with the state m
 abbrev pub passes_at : List ℕ → ℕ → Matching → Bool
 passes_at t a m = and_then_holds (program_at t a (length t)) (λ c. parts c m)
 
-abbrev pub verdict : Bool → Checked
-verdict true = Passes
-verdict false = Refused DoesNotPass
+abbrev pub verdict : Bool → Result (Unit {0}) Refusal
+verdict true = Ok tt
+verdict false = Err DoesNotPass
 
 -- the build part from place a on, whatever the depths of the terms that are still current
-pub record BuildsAt (t : List ℕ) (a terms : ℕ) (es : List Slot) (r : Checked) : Type 0 where
+pub record BuildsAt (t : List ℕ) (a terms : ℕ) (es : List Slot) (r : Result (Unit {0}) Refusal) : Type 0 where
   pub means : (ds g : List ℕ) → length ds ≡ terms → r ≡ verdict (passes_at t a (matching ds es g))
 
 -- the list that a SET directly behind place a gets: that of a CHECK there

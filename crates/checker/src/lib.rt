@@ -3,52 +3,44 @@
 #![tactic(auto)]
 
 pub mod build; // blocks and bodies
+pub mod nesting; // how deep they are
 
-ghost use Rattle.std.specs.Prelude.{◌≡◌, [], ◌∷◌, ◌<◌, ◌≤◌, length, get_or, replicate};
+ghost use Rattle.std.specs.Prelude.{◌≡◌, [], ◌∷◌, ◌<◌, ◌≤◌, length, get_or};
 ghost use Rattle.documents.specs.Passing.{matching, passes};
 ghost use Rattle.indices.specs.Sets.{gathered};
-ghost use Rattle.turns.specs.Held.{entries_of, Sound};
+ghost use Rattle.turns.specs.Held.{entries_of};
 ghost use Rattle.checker.specs.Matched.{passes_at, verdict, BuildsAt, list_behind, Listing};
 
 use crate::build::{Ended, build};
+use crate::nesting::Nesting;
 use documents::Refusal;
 use documents::op::{CHECK, EQI, SET};
 use indices::gather;
-use instructions::limit::{MOST_CURRENT, MOST_ENTRIES, MOST_WORDS};
+use instructions::limit::{MOST_CURRENT, MOST_WORDS};
 use turns::entries::Entries;
-use turns::{Turned, turn};
+use turns::turn;
 
 // The guard where no CHECK stands directly before.
 const NO_INDEX: u64 = 0;
 
-#[derive(Drop)]
-pub enum Checked {
-    Passes,
-    Refused(Refusal),
-}
-
 // 11, or not.
-pub fn check(code: &[u32]) -> Checked
+pub fn check(code: &[u32]) -> Result<(), Refusal>
     ensures { result ≡ verdict (passes code.now) }
 {
     if MOST_WORDS < code.len() {
-        return Checked::Refused(Refusal::DoesNotPass);
+        return Err(Refusal::DoesNotPass);
     }
     obeys(code)
 }
 
 // The match part: from one current term of depth 0 to the first build instruction.
-fn obeys(code: &[u32]) -> Checked
+fn obeys(code: &[u32]) -> Result<(), Refusal>
     requires { length code.now ≤ 4096 }
     ensures { result ≡ verdict (passes_at code.now 0 (matching (0 ∷ []) [] [])) }
 {
     let mut current = [0u8; MOST_CURRENT];
     let mut terms: usize = 1;
-    let mut entries = Entries {
-        count: 0,
-        depths: [0; MOST_ENTRIES],
-        guards: [0; MOST_ENTRIES],
-    };
+    let mut entries = Entries::new();
     let mut guard: u64 = NO_INDEX;
     let mut at: usize = 0;
     while at < code.len() {
@@ -57,28 +49,25 @@ fn obeys(code: &[u32]) -> Checked
             return builds(code, at, terms, entries);
         }
         if terms == 0 {
-            return Checked::Refused(Refusal::DoesNotPass);
+            return Err(Refusal::DoesNotPass);
         }
         let top = terms - 1;
         let d = current[top];
-        let Turned::To(next, n, depth) = turn(code, at, entries, d, top) else {
-            return Checked::Refused(Refusal::DoesNotPass);
+        let Ok(turned) = turn(code, at, entries, d, top) else {
+            return Err(Refusal::DoesNotPass);
         };
-        terms = top + n;
-        put(&mut current[top..terms], depth);
+        terms = top + turned.terms;
+        current[top..terms].fill(turned.depth);
         if op == SET {
-            let made = entries.count;
-            entries.depths[made] = d;
-            entries.guards[made] = guard;
-            entries.count = made + 1;
+            entries.enter(d, guard);
             guard = NO_INDEX;
-            at = next;
+            at = turned.next;
         } else {
             guard = guard_of(code, at);
-            at = next;
+            at = turned.next;
         }
     }
-    Checked::Refused(Refusal::DoesNotPass)
+    Err(Refusal::DoesNotPass)
 }
 
 // The indices that a CHECK lists, as the guard of a SET directly behind it.
@@ -94,26 +83,20 @@ fn guard_of(code: &[u32], at: usize) -> u64
     gather(&code[from..end])
 }
 
-fn put(part: &mut [u8], depth: u8)
-    ensures { part.new ≡ replicate (length part.old) depth }
-{
-    let mut i: usize = 0;
-    while i < part.len() {
-        part[i] = depth;
-        i += 1;
-    }
-}
-
 // The build part.
-fn builds(code: &[u32], at: usize, terms: usize, entries: Entries) -> Checked
-    requires { (at < length code.now) × (length code.now ≤ 4096) × (7 < get_or code.now at 0) × Sound entries }
+fn builds(code: &[u32], at: usize, terms: usize, entries: Entries) -> Result<(), Refusal>
+    requires { (at < length code.now) × (length code.now ≤ 4096) × (7 < get_or code.now at 0) }
     ensures { BuildsAt code.now at terms (entries_of entries) result }
 {
     if terms != 0 {
-        return Checked::Refused(Refusal::DoesNotPass);
+        return Err(Refusal::DoesNotPass);
     }
-    let Ended::Done = build(code, at, code.len(), entries, 0, 0) else {
-        return Checked::Refused(Refusal::DoesNotPass);
+    let whole = Nesting {
+        lambdas: 0,
+        nested: 0,
     };
-    Checked::Passes
+    let Ended::Done = build(code, at, code.len(), entries, whole)? else {
+        return Err(Refusal::DoesNotPass);
+    };
+    Ok(())
 }

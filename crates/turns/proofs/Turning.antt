@@ -97,7 +97,7 @@ every_all d (x ∷ l) = ap (λ (b : Bool). ltb x d && b) (every_all d l)
 
 -- ---- the reader refuses with one refusal
 
-fetched_refused : (t : List ℕ) (a e : ℕ) (w : Refusal) → fetched t a e ≡ Err w → w ≡ DoesNotPass
+pub fetched_refused : (t : List ℕ) (a e : ℕ) (w : Refusal) → fetched t a e ≡ Err w → w ≡ DoesNotPass
 unfolding fetched
 fetched_refused t a e w p = go (leb (get_or t a 0) 13) (leb (a + 1 + fixed_after (get_or t a 0)) e) p
   where
@@ -380,7 +380,7 @@ pub record Ranged (t : List ℕ) (a below : ℕ) (es : List Slot) (p n d : ℕ) 
   pub depth : d ≤ 63
   pub entries : get_or t a 0 ≡ 4 → length es < 16
 
-ok_same : {x y : Turned} → ◌≡◌ {A = Result Turned Refusal} (Ok x) (Ok y) → x ≡ y
+pub ok_same : {x y : Turned} → ◌≡◌ {A = Result Turned Refusal} (Ok x) (Ok y) → x ≡ y
 ok_same h = cc
 
 pub turn_range : {t : List ℕ} {a below : ℕ} {es : List Slot} {p n d : ℕ} (b : ℕ) → a < length t → get_or t a 0 ≤ 7 → below < 256 → b ≤ 63 → turned p n d ≡ turn_at t a b below es

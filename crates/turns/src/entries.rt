@@ -46,8 +46,8 @@ impl Entries {
     }
 
     // An entry, counted from the newest.
-    pub fn find(self, x: u32) -> Option<Entry>
-        ensures { result ≡ found_in self x }
+    pub fn find(&self, x: u32) -> Option<Entry>
+        ensures { result ≡ found_in self.now x }
     {
         if self.count <= x as usize {
             return None;
@@ -60,8 +60,8 @@ impl Entries {
     }
 
     // Whether it is there, with this depth.
-    pub fn has_depth(self, x: u32, d: u32) -> bool
-        ensures { result ≡ same_depth (found_in self x) d }
+    pub fn has_depth(&self, x: u32, d: u32) -> bool
+        ensures { result ≡ same_depth (found_in self.now x) d }
     {
         match self.find(x) {
             Some(entry) => d == entry.depth,

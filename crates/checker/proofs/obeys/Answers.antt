@@ -7,10 +7,10 @@ use borrow.Author.Rules.{rules}
 use Rattle.checker.proofs.obeys.Goals as goal
 
 pub loop-at-init : goal.loop-at-init
-loop-at-init c = matched_from _
+loop-at-init c = matched_from _ _ c.new-entries.ensures
 
 pub builds-requires : goal.builds-requires
-builds-requires c = (c.loop-at-test.true, c.requires, c.if-op-gt-EQI.true, c.loop-at.invariant.sound)
+builds-requires c = (c.loop-at-test.true, c.requires, c.if-op-gt-EQI.true)
 
 pub returns-then-op-gt-EQI : goal.returns-then-op-gt-EQI
 returns-then-op-gt-EQI c = matched_builds c.loop-at.invariant c.loop-at-test.true c.if-op-gt-EQI.true c.builds.ensures
@@ -19,37 +19,34 @@ pub returns-then-terms-eq0 : goal.returns-then-terms-eq0
 returns-then-terms-eq0 c = matched_bare c.loop-at.invariant c.loop-at-test.true c.if-op-gt-EQI.false c.if-terms-eq0.true
 
 pub turn-requires : goal.turn-requires
-turn-requires c = let v = c.loop-at.invariant.many in (c.loop-at-test.true, omega arith, omega arith, top_low c.loop-at.invariant c.loop-at-test.true c.if-op-gt-EQI.false c.if-terms-eq0.false refl, c.loop-at.invariant.sound)
+turn-requires c = let v = c.loop-at.invariant.many in (c.loop-at-test.true, omega arith, omega arith, top_low c.loop-at.invariant c.loop-at-test.true c.if-op-gt-EQI.false c.if-terms-eq0.false refl)
 
 pub returns-in_default : goal.returns-in_default
 returns-in_default c = matched_refused c.loop-at.invariant c.loop-at-test.true c.if-op-gt-EQI.false c.if-terms-eq0.false refl _ c.turn.ensures c.in_default.is
 
 pub overflow_add-terms : goal.overflow_add-terms
-overflow_add-terms c = let g = ranged c.loop-at.invariant c.loop-at-test.true c.if-op-gt-EQI.false c.if-terms-eq0.false refl c.turn.ensures c.in-To.is in search rules
+overflow_add-terms c = let g = ranged c.loop-at.invariant c.loop-at-test.true c.if-op-gt-EQI.false c.if-terms-eq0.false refl c.turn.ensures c.in-Ok.is in search rules
 
 pub slice_bounds-current-end : goal.slice_bounds-current-end
-slice_bounds-current-end c = let g = ranged c.loop-at.invariant c.loop-at-test.true c.if-op-gt-EQI.false c.if-terms-eq0.false refl c.turn.ensures c.in-To.is in let v = c.loop-at.invariant.whole_current in search rules
+slice_bounds-current-end c = let g = ranged c.loop-at.invariant c.loop-at-test.true c.if-op-gt-EQI.false c.if-terms-eq0.false refl c.turn.ensures c.in-Ok.is in let v = c.loop-at.invariant.whole_current in search rules
 
-pub bounds-entries-made : goal.bounds-entries-made
-bounds-entries-made c = let g = room c.loop-at.invariant c.loop-at-test.true c.if-op-gt-EQI.false c.if-terms-eq0.false refl c.turn.ensures c.in-To.is c.if-op-eq-SET.true in let v = c.loop-at.invariant.whole_depths in search rules
-
-pub bounds-entries-made-then-op-eq-SET : goal.bounds-entries-made-then-op-eq-SET
-bounds-entries-made-then-op-eq-SET c = let g = room c.loop-at.invariant c.loop-at-test.true c.if-op-gt-EQI.false c.if-terms-eq0.false refl c.turn.ensures c.in-To.is c.if-op-eq-SET.true in let v = c.loop-at.invariant.whole_guards in search rules
+pub enter-requires : goal.enter-requires
+enter-requires c = (room c.loop-at.invariant c.loop-at-test.true c.if-op-gt-EQI.false c.if-terms-eq0.false refl c.turn.ensures c.in-Ok.is c.if-op-eq-SET.true, top_low c.loop-at.invariant c.loop-at-test.true c.if-op-gt-EQI.false c.if-terms-eq0.false refl)
 
 pub loop-at-smaller-then-op-eq-SET : goal.loop-at-smaller-then-op-eq-SET
-loop-at-smaller-then-op-eq-SET c = let g = ranged c.loop-at.invariant c.loop-at-test.true c.if-op-gt-EQI.false c.if-terms-eq0.false refl c.turn.ensures c.in-To.is in search rules
+loop-at-smaller-then-op-eq-SET c = let g = ranged c.loop-at.invariant c.loop-at-test.true c.if-op-gt-EQI.false c.if-terms-eq0.false refl c.turn.ensures c.in-Ok.is in search rules
 
 pub loop-at-preserved-then-op-eq-SET : goal.loop-at-preserved-then-op-eq-SET
-loop-at-preserved-then-op-eq-SET c = let g = ranged c.loop-at.invariant c.loop-at-test.true c.if-op-gt-EQI.false c.if-terms-eq0.false refl c.turn.ensures c.in-To.is in let v = c.loop-at.invariant.whole_current in let n = c.in-To.n in matched_set c.loop-at.invariant c.loop-at-test.true c.if-op-gt-EQI.false c.if-terms-eq0.false refl c.turn.ensures c.in-To.is (put_replaced c.loop-at.current _ (c.loop-at.terms - 1) n (c.loop-at.terms - 1 + n - (c.loop-at.terms - 1)) _ (omega arith) (omega arith) c.put.ensures) c.if-op-eq-SET.true
+loop-at-preserved-then-op-eq-SET c = let g = ranged c.loop-at.invariant c.loop-at-test.true c.if-op-gt-EQI.false c.if-terms-eq0.false refl c.turn.ensures c.in-Ok.is in let v = c.loop-at.invariant.whole_current in let n = c.in-Ok.turned.terms in matched_set c.loop-at.invariant c.loop-at-test.true c.if-op-gt-EQI.false c.if-terms-eq0.false refl c.turn.ensures c.in-Ok.is (put_replaced c.loop-at.current _ (c.loop-at.terms - 1) n (c.loop-at.terms - 1 + n - (c.loop-at.terms - 1)) _ (omega arith) (omega arith) (c.fill.ensures.after (λ y e. e))) c.if-op-eq-SET.true c.enter.ensures
 
 pub guard_of-guard-requires : goal.guard_of-guard-requires
-guard_of-guard-requires c = (c.loop-at-test.true, listing c.loop-at.invariant c.loop-at-test.true c.if-op-gt-EQI.false c.if-terms-eq0.false refl c.turn.ensures c.in-To.is)
+guard_of-guard-requires c = (c.loop-at-test.true, listing c.loop-at.invariant c.loop-at-test.true c.if-op-gt-EQI.false c.if-terms-eq0.false refl c.turn.ensures c.in-Ok.is)
 
 pub loop-at-smaller : goal.loop-at-smaller
-loop-at-smaller c = let g = ranged c.loop-at.invariant c.loop-at-test.true c.if-op-gt-EQI.false c.if-terms-eq0.false refl c.turn.ensures c.in-To.is in search rules
+loop-at-smaller c = let g = ranged c.loop-at.invariant c.loop-at-test.true c.if-op-gt-EQI.false c.if-terms-eq0.false refl c.turn.ensures c.in-Ok.is in search rules
 
 pub loop-at-preserved : goal.loop-at-preserved
-loop-at-preserved c = let g = ranged c.loop-at.invariant c.loop-at-test.true c.if-op-gt-EQI.false c.if-terms-eq0.false refl c.turn.ensures c.in-To.is in let v = c.loop-at.invariant.whole_current in let n = c.in-To.n in matched_next c.loop-at.invariant c.loop-at-test.true c.if-op-gt-EQI.false c.if-terms-eq0.false refl c.turn.ensures c.in-To.is (put_replaced c.loop-at.current _ (c.loop-at.terms - 1) n (c.loop-at.terms - 1 + n - (c.loop-at.terms - 1)) _ (omega arith) (omega arith) c.put.ensures) _ c.if-op-eq-SET.false c.guard_of-guard.ensures
+loop-at-preserved c = let g = ranged c.loop-at.invariant c.loop-at-test.true c.if-op-gt-EQI.false c.if-terms-eq0.false refl c.turn.ensures c.in-Ok.is in let v = c.loop-at.invariant.whole_current in let n = c.in-Ok.turned.terms in matched_next c.loop-at.invariant c.loop-at-test.true c.if-op-gt-EQI.false c.if-terms-eq0.false refl c.turn.ensures c.in-Ok.is (put_replaced c.loop-at.current _ (c.loop-at.terms - 1) n (c.loop-at.terms - 1 + n - (c.loop-at.terms - 1)) _ (omega arith) (omega arith) (c.fill.ensures.after (λ y e. e))) _ c.if-op-eq-SET.false c.guard_of-guard.ensures
 
 pub returns : goal.returns
 returns c = matched_ended c.loop-at.invariant c.loop-at-test.false

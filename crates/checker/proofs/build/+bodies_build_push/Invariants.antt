@@ -15,14 +15,13 @@ decreases-build l = l.end - l.from
 abbrev pub decreases-push : goal.decreases-push
 decreases-push l = l.end - l.from
 
-abbrev pub invariant-bodies-loop-left : goal.invariant-bodies-loop-left
-invariant-bodies-loop-left l = Bodied l.code l.from l.end l.count (entries_of l.entries) l.l l.nest l.b l.set l.at l.left l.keys
-
-abbrev pub decreases-bodies-loop-left : goal.decreases-bodies-loop-left
-decreases-bodies-loop-left l = l.left
+abbrev pub invariant-bodies-loop : goal.invariant-bodies-loop
+invariant-bodies-loop l =
+    Bodied l.code l.from l.end l.count (entries_of l.entries) l.nesting.lambdas l.nesting.nested l.entry.depth l.entry.guard l.at (l.count - l.counter) l.keys
 
 abbrev pub invariant-build-loop-at : goal.invariant-build-loop-at
-invariant-build-loop-at l = Going l.code l.from l.end (entries_of l.entries) l.l l.nest (ltb l.l l.nest) l.at l.terms
+invariant-build-loop-at l =
+    Going l.code l.from l.end (entries_of l.entries) l.nesting.lambdas l.nesting.nested (ltb l.nesting.lambdas l.nesting.nested) l.at l.terms
 
 abbrev pub decreases-build-loop-at : goal.decreases-build-loop-at
 decreases-build-loop-at l = l.end - l.at

@@ -7,4 +7,4 @@ pub returns-then-self-x : goal.returns-then-self-x
 returns-then-self-x c = found_missing _ _ c.if-self-x.true
 
 pub returns : goal.returns
-returns c = rw c.from.ensures (found_entry c.args.self c.args.x (omega arith))
+returns c = rw c.from.ensures (found_entry c.args.self.now c.args.x (omega arith))
