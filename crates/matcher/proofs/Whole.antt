@@ -27,9 +27,8 @@ use Rattle.safety.proofs.Entries.{entries_length}
 use Rattle.safety.proofs.Matching.{Agrees, agrees_at_start}
 use Rattle.safety.proofs.NeverStuck.{passing_obeys}
 use Rattle.trees.specs.Trees.{entry_of}
-use Rattle.matcher.specs.declared.Stepped.{Stepped}
-use Rattle.matcher.specs.declared.Stepped.TheVariants as stepped
-use Rattle.matcher.specs.declared.Matched.TheVariants as matched
+use Rattle.std.specs.Prelude.{Result, Ok, Err}
+use Rattle.matcher.specs.declared.Standing.{Standing}
 use Rattle.matcher.specs.Midway.{Any, in_line, entered, Midway, state_of, entries_after, made_after, Moves, Fails, Steps}
 use Rattle.matcher.specs.Ready.{Begins, Ready, Comes}
 use Rattle.matcher.proofs.Places.{not_ended}
@@ -88,6 +87,16 @@ module _ (entries : List ℕ) (op made top : ℕ) where
   pub entered_top : op ≡ 4 → (set entries made top ≡ entries_after op entries made top) × (made + 1 ≡ made_after op made)
   entered_top e = (rw (eq-eqb op 4 e), rw (eq-eqb op 4 e))
 
+-- what was moved to, with the number of entries in the code's form
+module _ {code part entries : List ℕ} {at top current made : ℕ} (m : Midway code part entries at top current made) {p top' current' : ℕ} where
+  pub kept : (get_or code at 0 ≡ 4 → ⊥) → Moves m (entries_after (get_or code at 0) entries made top) (made_after (get_or code at 0) made) p top' current'
+      → Moves m (entries_after (get_or code at 0) entries made top) made p top' current'
+  kept n s = rw (ne_eqb (get_or code at 0) 4 n) (rw (ne_eqb (get_or code at 0) 4 n) at s)
+
+  pub counted : get_or code at 0 ≡ 4 → Moves m (entries_after (get_or code at 0) entries made top) (made_after (get_or code at 0) made) p top' current'
+      → Moves m (entries_after (get_or code at 0) entries made top) (made + 1) p top' current'
+  counted e s = rw (eq-eqb (get_or code at 0) 4 e) (rw (eq-eqb (get_or code at 0) 4 e) at s)
+
 pub moved : (rest : Program) (i : Instruction) (c : Program) (σ τ : State) → rest ≡ i ▸ c → exec i σ ≡ done τ → exec rest σ ≡ exec c τ
 moved rest i c σ τ e f = rw (e, f)
 
@@ -109,26 +118,32 @@ module _ {code part entries : List ℕ} {at top current made : ℕ} (g : Going c
   going_on : {entries' : List ℕ} {made' p top' current' : ℕ} → Moves g.midway entries' made' p top' current' → Going code part entries' p top' current' made'
   going_on s = record { midway = s.next; goes = λ c e. g.goes c e ∙ moved g.midway.rest s.i s.next.rest _ _ s.begins s.goes }
 
-  module _ {r : Stepped} (s : Steps code part entries at top current made r) where
-    pub going_refused : (w : Refusal) → r ≡ stepped.Refused w → Comes code part entries (matched.Refused MatchFails)
-    going_refused w e = record {
-      means = λ c d.
-          let f : Fails g.midway w = rw e at (s.means g.midway) in
-          (refl, g.goes c d ∙ failed g.midway.rest f.i f.c _ f.begins f.goes);
-    }
+-- a step of it
+module _ {code part entries : List ℕ} {here : Standing} (g : Going code part entries here.at here.top here.current here.made) {r : Result Standing Refusal}
+    (s : Steps code part entries here r) where
+  -- whatever the table of entries holds then
+  pub going_refused : (new : List ℕ) (w : Refusal) → r ≡ Err w → Comes code part new (Err MatchFails)
+  going_refused new w e = record {
+    means = λ c d.
+        let f : Fails g.midway w = rw e at (s.means g.midway) in
+        (refl, g.goes c d ∙ failed g.midway.rest f.i f.c _ f.begins f.goes);
+  }
 
-    module _ {p top' current' : ℕ} (e : r ≡ stepped.To p top' current') where
-      to : Moves g.midway (entries_after (get_or code at 0) entries made top) (made_after (get_or code at 0) made) p top' current'
-      to = rw e at (s.means g.midway)
+  pub refused_why : (w : Refusal) → r ≡ Err w → w ≡ MatchFails
+  refused_why w e = let f : Fails g.midway w = rw e at (s.means g.midway) in f.why
 
-      pub going_later : at < p
-      going_later = to.later
+  module _ {next : Standing} (e : r ≡ Ok next) where
+    to : Moves g.midway (entries_after (get_or code here.at 0) entries here.made here.top) next.made next.at next.top next.current
+    to = rw e at (s.means g.midway)
 
-      pub going_inside : p < length code
-      going_inside = to.next.inside
+    pub going_later : here.at < next.at
+    going_later = to.later
 
-      pub going_next : {new : List ℕ} {n : ℕ} → new ≡ entries_after (get_or code at 0) entries made top → n ≡ made_after (get_or code at 0) made → Going code part new p top' current' n
-      going_next e f = rw (e, f) (going_on to)
+    pub going_inside : next.at < length code
+    going_inside = to.next.inside
+
+    pub going_next : {new : List ℕ} → new ≡ entries_after (get_or code here.at 0) entries here.made here.top → Going code part new next.at next.top next.current next.made
+    going_next e = rw e (going_on g to)
 
 -- ---- the build part
 
@@ -183,5 +198,5 @@ module _ {code part entries : List ℕ} {at top current made : ℕ} (m : Midway 
   }
 
 pub going_build : {code part entries : List ℕ} {at top current made : ℕ} → Going code part entries at top current made → 7 < get_or code at 0
-    → Comes code part entries (matched.Build at made top)
+    → Comes code part entries (Ok (record { build = at; entries = made; words = top }))
 going_build g w = record { means = λ c e. (ready g.midway w c (g.goes c e), top_behind g.midway w) }

@@ -1,6 +1,6 @@
 -- The machine between two match instructions (004, section 4.1), as the matcher holds it: word places of the part for the top and for each
 -- entry, and a count of the current terms. The check's own state says how deep each of them stands.
-use Rattle.std.specs.Prelude.{◌≡◌, ℕ, ◌+◌, ◌*◌, ◌≤◌, ◌<◌, cond, List, [], ◌∷◌, T, eqb, length, get_or, drop, set}
+use Rattle.std.specs.Prelude.{◌≡◌, ℕ, ◌+◌, ◌*◌, ◌≤◌, ◌<◌, cond, List, [], ◌∷◌, T, eqb, length, get_or, drop, set, Result, Ok, Err}
 use Rattle.std.proofs.Math.Option.{some}
 use Rattle.documents.specs.declared.Refusal.{Refusal}
 use Rattle.documents.specs.declared.Refusal.TheVariants.{MatchFails}
@@ -14,8 +14,7 @@ use Rattle.tables.specs.Parts.{front, terms}
 use Rattle.tables.proofs.Walks.{Walking}
 use Rattle.instructions.specs.Places.{program_at}
 use Rattle.safety.proofs.Matching.{Agrees}
-use Rattle.matcher.specs.declared.Stepped.{Stepped}
-use Rattle.matcher.specs.declared.Stepped.TheVariants as stepped
+use Rattle.matcher.specs.declared.Standing.{Standing}
 use Rattle.matcher.specs.Ready.{Begins}
 
 -- which variables are free does not matter here
@@ -92,10 +91,19 @@ module _ {code part entries : List ℕ} {at top current made : ℕ} (m : Midway 
     pub goes : exec i (state_of m) ≡ fails
     pub why : w ≡ MatchFails
 
-  abbrev pub After : Stepped → Type 0
-  After (stepped.To p top' current') = Moves (entries_after (get_or code at 0) entries made top) (made_after (get_or code at 0) made) p top' current'
-  After (stepped.Refused w) = Fails w
+  abbrev pub After : Result Standing Refusal → Type 0
+  After (Ok s) = Moves (entries_after (get_or code at 0) entries made top) s.made s.at s.top s.current
+  After (Err w) = Fails w
+
+  -- a test goes on at a place, with the same entries and current terms
+  abbrev pub Tested : Result ℕ Refusal → Type 0
+  Tested (Ok p) = Moves (entries_after (get_or code at 0) entries made top) (made_after (get_or code at 0) made) p top current
+  Tested (Err w) = Fails w
 
 -- the match instruction at that place, wherever the check may be
-pub record Steps (code part entries : List ℕ) (at top current made : ℕ) (r : Stepped) : Type 0 where
-  pub means : (m : Midway code part entries at top current made) → After m r
+pub record Steps (code part entries : List ℕ) (s : Standing) (r : Result Standing Refusal) : Type 0 where
+  pub means : (m : Midway code part entries s.at s.top s.current s.made) → After m r
+
+-- the same of an instruction that tests the top
+pub record Tests (code part entries : List ℕ) (s : Standing) (r : Result ℕ Refusal) : Type 0 where
+  pub means : (m : Midway code part entries s.at s.top s.current s.made) → Tested m r

@@ -1,6 +1,7 @@
 -- What the match part is handed, and what it leaves to the build part.
-use Rattle.std.specs.Prelude.{◌≡◌, ℕ, ◌-◌, ◌*◌, ◌≤◌, ◌<◌, false, List, [], ◌∷◌, T, length, get_or, take, drop}
+use Rattle.std.specs.Prelude.{◌≡◌, ℕ, ◌-◌, ◌*◌, ◌≤◌, ◌<◌, false, List, [], ◌∷◌, T, length, get_or, take, drop, Result, Ok, Err}
 use Rattle.std.proofs.Math.Option.{some}
+use Rattle.documents.specs.declared.Refusal.{Refusal}
 use Rattle.documents.specs.declared.Refusal.TheVariants.{MatchFails}
 use Rattle.documents.specs.Tables.{nodes, subterm}
 use Rattle.documents.specs.Instructions.{Program, program_in}
@@ -12,7 +13,6 @@ use Rattle.instructions.specs.Places.{program_at}
 use Rattle.safety.proofs.Entries.{EntriesOk}
 use Rattle.trees.specs.Trees.{entry_of}
 use Rattle.matcher.specs.declared.Matched.{Matched}
-use Rattle.matcher.specs.declared.Matched.TheVariants as matched
 
 -- a part of a table that begins with an accepted subject; what stands behind it are whole terms, as behind each node of a plan
 pub record Begins (part : List ℕ) : Type 0 where
@@ -37,10 +37,10 @@ pub record Ready (code part entries : List ℕ) (c : Program) (at made : ℕ) : 
 
 module _ (code part entries : List ℕ) (c : Program) where
   -- the match fails, or the build part begins, and the words of the subject are told
-  abbrev pub ComesTo : Matched → Type 0
-  ComesTo (matched.Build at made words) = Ready code part entries c at made × (words ≡ 2 * nodes (front part))
-  ComesTo (matched.Refused w) = (w ≡ MatchFails) × (run c (front part) ≡ fails)
+  abbrev pub ComesTo : Result Matched Refusal → Type 0
+  ComesTo (Ok m) = Ready code part entries c m.build m.entries × (m.words ≡ 2 * nodes (front part))
+  ComesTo (Err w) = (w ≡ MatchFails) × (run c (front part) ≡ fails)
 
 -- with the code's program
-pub record Comes (code part entries : List ℕ) (r : Matched) : Type 0 where
+pub record Comes (code part entries : List ℕ) (r : Result Matched Refusal) : Type 0 where
   pub means : (c : Program) → program_in code ≡ some c → ComesTo code part entries c r

@@ -3,9 +3,9 @@
 // at a word place of the part, and there are so many of them. An entry is the word place of its subterm.
 #![tactic(auto)]
 
-ghost use Rattle.std.specs.Prelude.{◌≡◌, true, ◌≤◌, ◌<◌, ◌^◌, length, get_or};
+ghost use Rattle.std.specs.Prelude.{◌≡◌, true, ◌≤◌, length, get_or};
 ghost use Rattle.documents.specs.Passing.{passes};
-ghost use Rattle.matcher.specs.Midway.{Midway, Steps, entries_after, made_after};
+ghost use Rattle.matcher.specs.Midway.{Midway, Steps, Tests, entries_after};
 ghost use Rattle.matcher.specs.Ready.{Begins, Comes};
 
 use documents::Refusal;
@@ -15,149 +15,148 @@ use tables::forbid::check;
 use tables::node::{ABSTRACTION, FIRST_SYMBOL};
 use tables::pass::skip;
 
-// Where the next instruction stands, where the top starts then, and how many terms are current; or that the match fails.
-#[derive(Drop)]
-pub enum Stepped {
-    To(usize, usize, usize),
-    Refused(Refusal),
+// Where the match part stands: the next instruction, the word place at which the top starts, how many terms are current, how many entries are made.
+#[derive(Clone, Copy)]
+pub struct Standing {
+    pub at: usize,
+    pub top: usize,
+    pub current: usize,
+    pub made: usize,
 }
 
-// Where the build part begins, how many entries there are, and how many words the subject has; or that the match fails.
-#[derive(Drop)]
-pub enum Matched {
-    Build(usize, usize, usize),
-    Refused(Refusal),
+impl Standing {
+    // Before the first instruction the subject is the one current term.
+    pub const START: Standing = Standing {
+        at: 0,
+        top: 0,
+        current: 1,
+        made: 0,
+    };
+}
+
+// Where the build part begins, how many entries there are, and how many words the subject has.
+#[derive(Clone, Copy)]
+pub struct Matched {
+    pub build: usize,
+    pub entries: usize,
+    pub words: usize,
 }
 
 // From the subject as the one current term to the first build instruction, where none is current: the top has come to the subject's end. The entries
-// are left in the lent table, the newest last.
-pub fn match_part(code: &[u32], part: &[u32], entries: &mut [u32]) -> Matched
+// are left in the lent table, the newest last. 12 if the match fails.
+pub fn match_part(code: &[u32], part: &[u32], entries: &mut [u32]) -> Result<Matched, Refusal>
     requires { (passes code.now ≡ true) × Begins part.now × (length entries.old ≡ 16) }
     ensures { Comes code.now part.now entries.new result }
 {
-    let mut at: usize = 0;
-    let mut top: usize = 0;
-    let mut current: usize = 1;
-    let mut made: usize = 0;
-    loop {
-        let op = code[at];
-        if EQI < op {
-            return Matched::Build(at, made, top);
-        }
-        let Stepped::To(next, place, terms) = step(code, at, part, top, current, entries, made)
-        else {
-            return Matched::Refused(Refusal::MatchFails);
-        };
-        made = enter(entries, made, op, top);
-        at = next;
-        top = place;
-        current = terms;
+    let mut here = Standing::START;
+    while code[here.at] <= EQI {
+        here = step(code, part, entries, here)?;
     }
+    Ok(Matched {
+        build: here.at,
+        entries: here.made,
+        words: here.top,
+    })
 }
 
-// A SET enters the top, behind the entries that there are; gives their number.
-pub fn enter(entries: &mut [u32], made: usize, op: u32, top: usize) -> usize
-    requires { (op ≡ 4 → made < length entries.old) × (top < 2 ^ 32) }
-    ensures { (entries.new ≡ entries_after op entries.old made top) × (result ≡ made_after op made) }
-{
-    if op != SET {
-        return made;
-    }
-    entries[made] = top as u32;
-    made + 1
-}
-
-// One match instruction, but for what a SET enters.
+// One match instruction. A SET enters the top, behind the entries that there are.
 pub fn step(
     code: &[u32],
-    at: usize,
     part: &[u32],
-    top: usize,
-    current: usize,
-    entries: &[u32],
-    made: usize,
-) -> Stepped
-    requires { Midway code.now part.now entries.now at top current made × (get_or code.now at 0 ≤ 7) }
-    ensures { Steps code.now part.now entries.now at top current made result }
+    entries: &mut [u32],
+    here: Standing,
+) -> Result<Standing, Refusal>
+    requires { Midway code.now part.now entries.old here.at here.top here.current here.made × (get_or code.now here.at 0 ≤ 7) }
+    ensures steps { Steps code.now part.now entries.old here result }
+    ensures enters { entries.new ≡ entries_after (get_or code.now here.at 0) entries.old here.made here.top }
 {
+    let Standing {
+        at,
+        top,
+        current,
+        made,
+    } = here;
     let op = code[at];
     if op == IS {
-        if part[top] != FIRST_SYMBOL + code[at + 1] {
-            return Stepped::Refused(Refusal::MatchFails);
+        if part[top] != FIRST_SYMBOL + code[at + 1] || part[top + 1] != code[at + 2] {
+            return Err(Refusal::MatchFails);
         }
-        if part[top + 1] != code[at + 2] {
-            return Stepped::Refused(Refusal::MatchFails);
-        }
-        return Stepped::To(at + 3, top + 2, current - 1 + code[at + 2] as usize);
+        return Ok(Standing {
+            at: at + 3,
+            top: top + 2,
+            current: current - 1 + code[at + 2] as usize,
+            made,
+        });
     }
     if op == ISABST {
         if part[top] != ABSTRACTION {
-            return Stepped::Refused(Refusal::MatchFails);
+            return Err(Refusal::MatchFails);
         }
-        return Stepped::To(at + 1, top + 2, current);
+        return Ok(Standing {
+            at: at + 1,
+            top: top + 2,
+            ..here
+        });
     }
     if op == NEXT {
-        return Stepped::To(at + 1, top + skip(&part[top..]), current - 1);
+        return Ok(Standing {
+            at: at + 1,
+            top: top + skip(&part[top..]),
+            current: current - 1,
+            made,
+        });
     }
     if op == SET {
-        return Stepped::To(at + 1, top, current);
+        entries[made] = top as u32;
+        return Ok(Standing {
+            at: at + 1,
+            made: made + 1,
+            ..here
+        });
     }
-    test(code, at, part, top, current, entries, made)
+    let next = test(code, part, entries, here)?;
+    Ok(Standing { at: next, ..here })
 }
 
-// CHECK, EQVAR, EQIMM and EQI leave the current terms as they are.
-fn test(
-    code: &[u32],
-    at: usize,
-    part: &[u32],
-    top: usize,
-    current: usize,
-    entries: &[u32],
-    made: usize,
-) -> Stepped
-    requires { Midway code.now part.now entries.now at top current made × (3 ≤ get_or code.now at 0) × (get_or code.now at 0 ≤ 7) × (get_or code.now at 0 ≡ 4 → ⊥) }
-    ensures { Steps code.now part.now entries.now at top current made result }
+// CHECK, EQVAR, EQIMM and EQI leave the current terms as they are: the place behind the instruction.
+fn test(code: &[u32], part: &[u32], entries: &[u32], here: Standing) -> Result<usize, Refusal>
+    requires { Midway code.now part.now entries.now here.at here.top here.current here.made × (3 ≤ get_or code.now here.at 0) × (get_or code.now here.at 0 ≤ 7) × (get_or code.now here.at 0 ≡ 4 → ⊥) }
+    ensures { Tests code.now part.now entries.now here result }
 {
+    let Standing { at, top, .. } = here;
     let op = code[at];
     if op == CHECK {
         let end = at + 2 + code[at + 1] as usize;
         if !check(&part[top..], &code[at + 2..end]) {
-            return Stepped::Refused(Refusal::MatchFails);
+            return Err(Refusal::MatchFails);
         }
-        return Stepped::To(end, top, current);
+        return Ok(end);
     }
     if op == EQVAR {
         if part[top] != code[at + 1] {
-            return Stepped::Refused(Refusal::MatchFails);
+            return Err(Refusal::MatchFails);
         }
-        return Stepped::To(at + 2, top, current);
+        return Ok(at + 2);
     }
-    compare(code, at, part, top, current, entries, made)
+    compare(code, part, entries, here)
 }
 
 // EQIMM and EQI: the top against an entry.
-fn compare(
-    code: &[u32],
-    at: usize,
-    part: &[u32],
-    top: usize,
-    current: usize,
-    entries: &[u32],
-    made: usize,
-) -> Stepped
-    requires { Midway code.now part.now entries.now at top current made × (6 ≤ get_or code.now at 0) × (get_or code.now at 0 ≤ 7) }
-    ensures { Steps code.now part.now entries.now at top current made result }
+fn compare(code: &[u32], part: &[u32], entries: &[u32], here: Standing) -> Result<usize, Refusal>
+    requires { Midway code.now part.now entries.now here.at here.top here.current here.made × (6 ≤ get_or code.now here.at 0) × (get_or code.now here.at 0 ≤ 7) }
+    ensures { Tests code.now part.now entries.now here result }
 {
+    let Standing { at, top, made, .. } = here;
     let old = entries[made - 1 - code[at + 1] as usize] as usize;
     if code[at] == EQIMM {
         if !identical(&part[old..], &part[top..]) {
-            return Stepped::Refused(Refusal::MatchFails);
+            return Err(Refusal::MatchFails);
         }
-        return Stepped::To(at + 2, top, current);
+        return Ok(at + 2);
     }
     let end = at + 4 + 2 * code[at + 3] as usize;
     if !same(&part[old..], &part[top..], code[at + 2], &code[at + 4..end]) {
-        return Stepped::Refused(Refusal::MatchFails);
+        return Err(Refusal::MatchFails);
     }
-    Stepped::To(end, top, current)
+    Ok(end)
 }

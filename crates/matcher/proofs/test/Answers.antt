@@ -52,6 +52,3 @@ returns-then-op-eq-EQVAR c = record { means = λ m. eqvar_moves m c.if-op-eq-EQV
 
 pub compare-requires : goal.compare-requires
 compare-requires c = (c.requires.0, omega arith, c.requires.2)
-
-pub returns : goal.returns
-returns c = c.compare.ensures
