@@ -10,6 +10,7 @@ use mathlib.Core.List.{List, [], ◌∷◌, ◌++◌, append_assoc, append-nil}
 use lib.Dec.{leb}
 use lib.ListN.{length, get_or, get_elem?, set, take, drop, length-append, length-drop, length-set, drop_of_length-le, get_or-append}
 use lib.Seq.{drop-drop, get_or_at, take-suc-set}
+use Rattle.std.specs.Prelude.{Ok, Err}
 use borrow.Author.Tests.{le-leb, lt-leb}
 use Rattle.documents.specs.declared.Refusal.{Refusal}
 use Rattle.documents.specs.declared.Refusal.TheVariants.{DoesNotPass}
@@ -18,12 +19,10 @@ use Rattle.documents.specs.Instructions.{Program, program_in}
 use Rattle.documents.specs.Passing.{obeys, passes, and_then_holds}
 use Rattle.documents.specs.Numbers.{Answer, answered, refused, with, code_in}
 use Rattle.documents.proofs.Lists.{never, at_cons, both_true}
-use Rattle.checker.specs.declared.Checked.TheVariants as checked
 use Rattle.checker.specs.Matched.{verdict}
 use Rattle.rewriting.specs.RuleTable.{whole, cut, listed, listed_in, rules_in}
 use Rattle.rewriting.specs.ListCall.{rule_limit}
 use Rattle.rewriting.proofs.RuleTables.{rules_cons}
-use Rattle.rule_table.specs.declared.Laid.TheVariants as laid
 use Rattle.rule_table.specs.Places.{code_at, Placed, Places, LaidAs}
 use Rattle.rule_table.proofs.Placed.{member_below}
 use Rattle.rule_table.proofs.Counting.{counted_at}
@@ -95,7 +94,7 @@ laying_none rules starts few long = record {
     with_itself (refused w) = refl
 
 module _ {rules starts : List ℕ} {at count : ℕ} (l : Laying rules starts at count) where
-  pub laid_all : length rules ≤ at → LaidAs rules starts (laid.Rules count)
+  pub laid_all : length rules ≤ at → LaidAs rules starts (Ok count)
   unfolding rules_in
   laid_all h = (l.programs, l.table ∙ rw (drop_of_length-le rules h, append-nil l.programs), omega (arith, l.long, l.few), l.places)
 
@@ -113,11 +112,11 @@ module _ {rules starts : List ℕ} {at count : ℕ} (l : Laying rules starts at 
           ≡ with (code_in (code_at rules at)) (λ c. with (rules_in (drop (at + 1 + get_or rules at 0) rules)) (λ cs. answered (c ∷ cs)))
       rules_whole = rw (rules_at rules at h, le-leb (get_or rules at 0) (length (drop (at + 1) rules)) (omega (arith, length-drop (at + 1) rules)))
 
-      pub laid_refused : (w : Refusal) → checked.Refused w ≡ verdict (passes (code_at rules at)) → rules_in rules ≡ refused w
+      pub laid_refused : (w : Refusal) → Err w ≡ verdict (passes (code_at rules at)) → rules_in rules ≡ refused w
       unfolding code_in
       laid_refused w e = go (passes (code_at rules at)) refl e
         where
-          go : (q : Bool) → passes (code_at rules at) ≡ q → checked.Refused w ≡ verdict q → rules_in rules ≡ refused w
+          go : (q : Bool) → passes (code_at rules at) ≡ q → Err w ≡ verdict q → rules_in rules ≡ refused w
           go true q e = never (cc)
           go false q e = let r : w ≡ DoesNotPass = cc in l.table ∙ rw (rules_whole, q, r)
 
@@ -139,6 +138,6 @@ module _ {rules starts : List ℕ} {at count : ℕ} (l : Laying rules starts at 
           }
 
 -- what the check says of a rule's code
-pub passes_told : (q : Bool) → checked.Passes ≡ verdict q → q ≡ true
+pub passes_told : (q : Bool) {u : Unit {0}} → Ok u ≡ verdict q → q ≡ true
 passes_told true e = refl
 passes_told false e = never (cc)

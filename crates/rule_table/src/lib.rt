@@ -6,17 +6,10 @@ ghost use Rattle.rewriting.specs.RuleTable.{listed};
 ghost use Rattle.rewriting.specs.ListCall.{rule_limit};
 ghost use Rattle.rule_table.specs.Places.{code_at, LaidAs};
 
-use checker::{Checked, check};
+use checker::check;
 use documents::Refusal;
 
 pub const MOST_RULES: usize = 32;
-
-// How many rules there are, all of them good; or the refusal of the first bad one.
-#[derive(Drop)]
-pub enum Laid {
-    Rules(usize),
-    Refused(Refusal),
-}
 
 // Whether there are at most 32 rules, a cut one counted, which is the last.
 pub fn few(rules: &[u32]) -> bool
@@ -24,6 +17,7 @@ pub fn few(rules: &[u32]) -> bool
 {
     let mut at: usize = 0;
     let mut count: usize = 0;
+    // Kept (point 3): a rule is as long as its first word says, so the place goes on by that and not by one.
     while at < rules.len() {
         if count == MOST_RULES {
             return false;
@@ -38,27 +32,26 @@ pub fn few(rules: &[u32]) -> bool
     true
 }
 
-// Where each rule's word count stands, if the code of each passes.
-pub fn lay(rules: &[u32], starts: &mut [usize; MOST_RULES]) -> Laid
+// Where each rule's word count stands, if the code of each passes: how many there are.
+// Kept (point 6): no heap; the places go into what was lent for the most that there may be.
+pub fn lay(rules: &[u32], starts: &mut [usize; MOST_RULES]) -> Result<usize, Refusal>
     requires { (length (listed rules.now) ≤ rule_limit) × (length starts.old ≡ rule_limit) }
     ensures { LaidAs rules.now starts.new result }
 {
     let mut at: usize = 0;
     let mut count: usize = 0;
+    // Kept (point 3): as above.
     while at < rules.len() {
         let words = rules[at] as usize;
         if rules.len() - at - 1 < words {
-            return Laid::Refused(Refusal::DoesNotPass);
+            return Err(Refusal::DoesNotPass);
         }
-        let Checked::Refused(why) = check(code_at(rules, at)) else {
-            starts[count] = at;
-            count += 1;
-            at = at + 1 + words;
-            continue;
-        };
-        return Laid::Refused(why);
+        check(code_at(rules, at))?;
+        starts[count] = at;
+        count += 1;
+        at = at + 1 + words;
     }
-    Laid::Rules(count)
+    Ok(count)
 }
 
 // The code of the rule whose word count stands at a place.

@@ -1,6 +1,5 @@
 -- `dispatch::asked`: an IS asks for the bucket of its symbol, an ISABST for the abstractions', and no other instruction for any.
 use mathlib.Core.Path.{sym}
-use native.Mathlib.Omega.{arith}
 use Rattle.dispatch.proofs.Asking.{asked_is, asked_isabst, asked_else}
 use Rattle.dispatch.proofs.asked.Goals as goal
 

@@ -1,5 +1,7 @@
+use mathlib.Core.Path.{sym, ◌∙◌}
 use native.Mathlib.Omega.{arith}
 use Rattle.rule_table.proofs.Laying.{laying_none, laid_all, laid_room, laid_cut, laid_refused, laid_more, passes_told}
+use Rattle.std.proofs.lemmas.Result.{err_from_is_err_and}
 use borrow.Author.Rules.{rules}
 use Rattle.rule_table.proofs.lay.Goals as goal
 
@@ -22,10 +24,12 @@ pub overflow_add-count : goal.overflow_add-count
 overflow_add-count c = let a = laid_room c.loop-at.invariant c.loop-at-test.true in search rules
 
 pub loop-at-preserved : goal.loop-at-preserved
-loop-at-preserved c = laid_more c.loop-at.invariant c.loop-at-test.true (omega arith) (passes_told _ (cc (c.in_default.is, c.check.ensures, c.code_at.ensures)))
+loop-at-preserved c = laid_more c.loop-at.invariant c.loop-at-test.true (omega arith) (passes_told _ (rw c.code_at.ensures at (sym c.in_ok-check.was ∙ c.check.ensures)))
 
-pub returns-in-loop-at : goal.returns-in-loop-at
-returns-in-loop-at c = laid_refused c.loop-at.invariant c.loop-at-test.true (omega arith) _ (cc (c.in-Refused.is, c.check.ensures, c.code_at.ensures))
+pub returns-in_err-check : goal.returns-in_err-check
+returns-in_err-check c =
+    let p = err_from_is_err_and c.from_residual.result c.from_residual.ensures.1 in
+    rw (p.1, p.2) (laid_refused c.loop-at.invariant c.loop-at-test.true (omega arith) _ (cc (c.in_err-check.was, c.check.ensures, c.code_at.ensures)))
 
 pub returns : goal.returns
 returns c = laid_all c.loop-at.invariant c.loop-at-test.false
