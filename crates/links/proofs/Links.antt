@@ -1,36 +1,8 @@
 -- The words of a link and of a note, put together and taken apart.
-use mathlib.Core.Path.{◌≡◌, refl}
-use Prim.Native.Nat.{ℕ, ◌+◌, ◌*◌, ◌/◌, ◌%◌, ◌<◌}
+use mathlib.Core.Path.{◌≡◌}
+use Prim.Native.Nat.{ℕ, ◌+◌, ◌*◌, ◌/◌, ◌<◌}
 use native.Mathlib.Omega.{arith}
 use Rattle.links.specs.Links.{link_of, before_in, over_in, depth_in, note_of, nodes_in, reach_in}
-
-pub link_is : (b o d : ℕ) → (d * 4096 + o) * 4096 + b ≡ link_of b o d
-unfolding link_of
-link_is b o d = refl
-
-pub before_is : (w : ℕ) → w % 4096 ≡ before_in w
-unfolding before_in
-before_is w = refl
-
-pub over_is : (w : ℕ) → w / 4096 % 4096 ≡ over_in w
-unfolding over_in
-over_is w = refl
-
-pub depth_is : (w : ℕ) → w / 4096 / 4096 ≡ depth_in w
-unfolding depth_in
-depth_is w = refl
-
-pub note_is : (n r : ℕ) → r * 8192 + n ≡ note_of n r
-unfolding note_of
-note_is n r = refl
-
-pub nodes_is : (w : ℕ) → w % 8192 ≡ nodes_in w
-unfolding nodes_in
-nodes_is w = refl
-
-pub reach_is : (w : ℕ) → w / 8192 ≡ reach_in w
-unfolding reach_in
-reach_is w = refl
 
 pub link_before : (b o d : ℕ) → b < 4096 → before_in (link_of b o d) ≡ b
 unfolding link_of before_in

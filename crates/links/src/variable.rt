@@ -9,10 +9,7 @@ use tables::node::FIRST_SYMBOL;
 pub fn is_free(word: u32, inside: u32) -> bool
     ensures { result ≡ is_free word inside }
 {
-    if FIRST_SYMBOL <= word {
-        return false;
-    }
-    inside <= word
+    word < FIRST_SYMBOL && inside <= word
 }
 
 // An index that d moves; `shift` is d + 64.
@@ -20,9 +17,5 @@ pub fn moved(index: u32, shift: u32) -> u32
     requires { index + shift < 2 ^ 32 }
     ensures { result ≡ index + shift - 64 }
 {
-    let sum = index + shift;
-    if sum < D_SHIFT {
-        return 0;
-    }
-    sum - D_SHIFT
+    (index + shift).saturating_sub(D_SHIFT)
 }

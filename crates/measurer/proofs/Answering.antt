@@ -15,10 +15,9 @@ use Rattle.links.specs.Links.{link_of, reach_in}
 use Rattle.links.specs.Standing.{entry_at}
 use Rattle.links.specs.Sequences.{tree_at}
 use Rattle.links.proofs.Ran.{follows_within}
+use Rattle.std.specs.Prelude.{Option, Some, None}
 use Rattle.measurer.specs.declared.Measured.{Measured}
-use Rattle.measurer.specs.declared.Measured.TheVariants as measured
 use Rattle.measurer.specs.declared.Span.{Span}
-use Rattle.measurer.specs.declared.Span.TheVariants as span
 use Rattle.measurer.specs.Linking.{plain_link, place_next}
 use Rattle.measurer.specs.Measuring.{Kept, near, Sequence, Measure, Measures, push_tree, Pushing, Pushes, nodes_for, Spreads, Free, Meets, Frees, Noted}
 use Rattle.measurer.proofs.Kept.{kept_then, kept_wide}
@@ -28,32 +27,32 @@ use Rattle.measurer.proofs.Meeting.{key_in, body_end_lem, body_low, meets_large,
 
 -- ---- An answer that was taken apart
 
-pub measures_of : {code : List ℕ} {from end : ℕ} {subject entries work work' : List ℕ} {most n f z : ℕ} {r : Measured} → Measures code from end subject entries work work' most r
-    → r ≡ measured.Of n f z → Measure code subject entries work' most from end n f z
+pub measures_of : {code : List ℕ} {from end : ℕ} {subject entries work work' : List ℕ} {most : ℕ} {found : Measured} {r : Option Measured} → Measures code from end subject entries work work' most r
+    → r ≡ Some found → Measure code subject entries work' most from end found.nodes found.reach found.root
 measures_of m e = let k = rw e at m.says in k
 
-pub measures_large : {code : List ℕ} {from end : ℕ} {subject entries work work' : List ℕ} {most : ℕ} {r : Measured} → Measures code from end subject entries work work' most r
-    → r ≡ measured.TooLarge → most < nodes_of (entry_at subject entries) (tree_at code from end)
+pub measures_large : {code : List ℕ} {from end : ℕ} {subject entries work work' : List ℕ} {most : ℕ} {r : Option Measured} → Measures code from end subject entries work work' most r
+    → r ≡ None → most < nodes_of (entry_at subject entries) (tree_at code from end)
 measures_large m e = let k = rw e at m.says in k
 
-pub pushes_of : {code : List ℕ} {at : ℕ} {subject entries work work' : List ℕ} {most n d f : ℕ} {r : Span} → Pushes code at subject entries work work' most r
-    → r ≡ span.Of n d f → Pushing code subject entries work' most at n d f
+pub pushes_of : {code : List ℕ} {at : ℕ} {subject entries work work' : List ℕ} {most : ℕ} {found : Span} {r : Option Span} → Pushes code at subject entries work work' most r
+    → r ≡ Some found → Pushing code subject entries work' most at found.nodes found.depth found.reach
 pushes_of m e = let k = rw e at m.says in k
 
-pub pushes_large : {code : List ℕ} {at : ℕ} {subject entries work work' : List ℕ} {most : ℕ} {r : Span} → Pushes code at subject entries work work' most r
-    → r ≡ span.TooLarge → most < nodes_of (entry_at subject entries) (push_tree code at)
+pub pushes_large : {code : List ℕ} {at : ℕ} {subject entries work work' : List ℕ} {most : ℕ} {r : Option Span} → Pushes code at subject entries work work' most r
+    → r ≡ None → most < nodes_of (entry_at subject entries) (push_tree code at)
 pushes_large m e = let k = rw e at m.says in k
 
-pub spreads_are : {code : List ℕ} {push c D : ℕ} {part : List ℕ} {places : ℕ} {subject entries work work' : List ℕ} {most : ℕ} {r s : Span}
+pub spreads_are : {code : List ℕ} {push c D : ℕ} {part : List ℕ} {places : ℕ} {subject entries work work' : List ℕ} {most : ℕ} {r s : Option Span}
     → Spreads code push c D part places subject entries work work' most r → r ≡ s → Spreads code push c D part places subject entries work work' most s
 spreads_are m e = rw e at m
 
-pub frees_of : {code : List ℕ} {push c D w inside : ℕ} {subject entries work work' : List ℕ} {most n d f : ℕ} {r : Span} → Frees code push c D w inside subject entries work work' most r
-    → r ≡ span.Of n d f → Meets code subject entries work work' push c D w inside most n d f
+pub frees_of : {code : List ℕ} {push c D w inside : ℕ} {subject entries work work' : List ℕ} {most : ℕ} {found : Span} {r : Option Span} → Frees code push c D w inside subject entries work work' most r
+    → r ≡ Some found → Meets code subject entries work work' push c D w inside most found.nodes found.depth found.reach
 frees_of m e = let k = rw e at m.says in k
 
-pub frees_large : {code : List ℕ} {push c D w inside : ℕ} {subject entries work work' : List ℕ} {most : ℕ} {r : Span} → Frees code push c D w inside subject entries work work' most r
-    → r ≡ span.TooLarge → most < or_one (nodes_for code subject entries (push + 4) c (w - inside))
+pub frees_large : {code : List ℕ} {push c D w inside : ℕ} {subject entries work work' : List ℕ} {most : ℕ} {r : Option Span} → Frees code push c D w inside subject entries work work' most r
+    → r ≡ None → most < or_one (nodes_for code subject entries (push + 4) c (w - inside))
 frees_large m e = let k = rw e at m.says in k
 
 -- ---- free
@@ -61,7 +60,7 @@ frees_large m e = let k = rw e at m.says in k
 module _ {code subject entries work : List ℕ} {push c D w inside most : ℕ} (fr : Free code push c D w inside subject entries work most)
     {k : ℕ} (key : Key k ≡ found_at (key_place code (push + 4) c (w - inside))) where
   pub meets_too_large : {work₁ : List ℕ} → Kept (k + 2) (body_end code k) work work₁ → most < nodes_of (entry_at subject entries) (tree_at code (k + 2) (body_end code k))
-      → Frees code push c D w inside subject entries work work₁ most span.TooLarge
+      → Frees code push c D w inside subject entries work work₁ most None
   meets_too_large kp l =
       let a = body_low fr key in
       let b = body_end_lem fr key in
@@ -77,11 +76,11 @@ module _ {code subject entries work : List ℕ} {push c D w inside most : ℕ} (
 
 module _ {code subject entries work₀ : List ℕ} {from end most : ℕ} (sq : Sequence code from end subject entries work₀ most) where
   module _ {work : List ℕ} {at z n far : ℕ} (g : Growing code subject entries work₀ from end most work at z n far) where
-    pub end_answer : end ≤ at → Measures code from end subject entries work₀ work most (measured.Of n far z)
+    pub end_answer : end ≤ at → Measures code from end subject entries work₀ work most (Some (record { nodes = n; reach = far; root = z }))
     end_answer h = record { kept = kept_wide g.kept (omega arith) g.high; says = growing_end code subject entries work₀ from end most sq g h }
 
     module _ (lo : at < end) where
-      pub full_answer : most ≤ n → get_or code at 0 < 12 → (get_or code at 0 ≡ 9 → ⊥) → Measures code from end subject entries work₀ work most measured.TooLarge
+      pub full_answer : most ≤ n → get_or code at 0 < 12 → (get_or code at 0 ≡ 9 → ⊥) → Measures code from end subject entries work₀ work most None
       full_answer h l ne =
           record { kept = kept_wide g.kept (omega arith) g.high; says = full_plain code subject entries work₀ from end most sq g lo h l ne }
 
@@ -130,11 +129,11 @@ module _ {code subject entries work₀ : List ℕ} {from end most : ℕ} (sq : S
             let a = g.low in
             kept_then g.kept k₁ (omega arith) (omega arith) g.high (omega arith)
 
-        pub push_answer : most < nodes_of (entry_at subject entries) (push_tree code at) → Measures code from end subject entries work₀ work₁ most measured.TooLarge
+        pub push_answer : most < nodes_of (entry_at subject entries) (push_tree code at) → Measures code from end subject entries work₀ work₁ most None
         push_answer l =
             record { kept = kept_push; says = full_push code subject entries work₀ from end most sq g lo pu (nodes_of (entry_at subject entries) (push_tree code at)) (omega arith) (omega arith) }
 
-        pub over_answer : {m : ℕ} → m ≡ nodes_of (entry_at subject entries) (push_tree code at) → most - n < m → Measures code from end subject entries work₀ work₁ most measured.TooLarge
+        pub over_answer : {m : ℕ} → m ≡ nodes_of (entry_at subject entries) (push_tree code at) → most - n < m → Measures code from end subject entries work₀ work₁ most None
         over_answer {m} e l =
             record { kept = kept_push; says = full_push code subject entries work₀ from end most sq g lo pu m (omega arith) (let h = g.fits in omega arith) }
 

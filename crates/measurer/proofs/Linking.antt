@@ -1,13 +1,11 @@
 -- The links of instructions, and keys that are cleared, one after the other.
-use mathlib.Core.Path.{◌≡◌, refl, sym, ap, ap₂, ◌∙◌}
-use Prim.Native.Nat.{ℕ, zero, suc, ◌+◌, ◌-◌, ◌≤◌, ◌<◌, max}
+use mathlib.Core.Path.{◌≡◌, refl, sym, ap, ap₂, subst, ◌∙◌}
+use Prim.Native.Nat.{ℕ, zero, suc, ◌+◌, ◌≤◌, ◌<◌, max}
 use native.Mathlib.Omega.{arith}
 use mathlib.Core.List.{List}
 use lib.ListN.{length, get_or, set, length-set}
 use borrow.Author.Tests.{eq-eqb, ne_eqb}
 use Rattle.instructions.specs.Bodies.{body_end, Readable, place_behind}
-use Rattle.instructions.proofs.Bodies.{readable_more}
-use Rattle.trees.specs.Trees.{further}
 use Rattle.links.specs.Links.{link_of, before_in, depth_in, capped}
 use Rattle.links.specs.Standing.{back}
 use Rattle.measurer.specs.Linking.{deepest_back, over_link, plain_link, place_next, forgotten}
@@ -23,14 +21,6 @@ pub record Backing (work : List ℕ) (n₀ z₀ n z deep : ℕ) : Type 0 where
 pub max_assoc : (a b c : ℕ) → max (max a b) c ≡ max a (max b c)
 max_assoc a b c = omega arith
 
-step_back : (work : List ℕ) (n z : ℕ) → 0 < n → back work n z ≡ back work (n - 1) (before_in (get_or work z 0))
-step_back work zero z h = absurd (omega arith)
-step_back work (suc n) z h = let e : suc n - 1 ≡ n = omega arith in rw e
-
-step_deepest : (work : List ℕ) (n z : ℕ) → 0 < n → deepest_back work n z ≡ max (depth_in (get_or work z 0)) (deepest_back work (n - 1) (before_in (get_or work z 0)))
-step_deepest work zero z h = absurd (omega arith)
-step_deepest work (suc n) z h = let e : suc n - 1 ≡ n = omega arith in rw e
-
 none_back : (work : List ℕ) (n z : ℕ) → n ≤ 0 → back work n z ≡ z
 none_back work zero z h = refl
 none_back work (suc n) z h = absurd (omega arith)
@@ -40,12 +30,12 @@ none_deepest work zero z h = refl
 none_deepest work (suc n) z h = absurd (omega arith)
 
 module _ {work : List ℕ} {n₀ z₀ n z deep : ℕ} (b : Backing work n₀ z₀ n z deep) where
-  pub backing_on : {d z' deep' : ℕ} → 0 < n → z' ≡ before_in (get_or work z 0) → z' < 4096 → d ≡ depth_in (get_or work z 0) → d ≤ 255 → deep' ≡ max deep d
-      → Backing work n₀ z₀ (n - 1) z' deep'
-  backing_on {d} {z'} {deep'} h ez lo ed small em =
+  pub backing_on : {m d z' deep' : ℕ} → suc m ≡ n → z' ≡ before_in (get_or work z 0) → z' < 4096 → d ≡ depth_in (get_or work z 0) → d ≤ 255 → deep' ≡ max deep d
+      → Backing work n₀ z₀ m z' deep'
+  backing_on {m} {d} {z'} {deep'} en ez lo ed small em =
       record {
-        same = rw ez (sym (step_back work n z h) ∙ b.same);
-        deepest = rw (em, ez, ed) (max_assoc deep _ _ ∙ ap (max deep) (sym (step_deepest work n z h)) ∙ b.deepest);
+        same = rw ez (ap (λ k. back work k z) en ∙ b.same);
+        deepest = rw (em, ez, ed) (max_assoc deep _ _ ∙ ap (λ k. max deep (deepest_back work k z)) en ∙ b.deepest);
         low = lo;
         small = let k = b.small in omega arith;
       }
@@ -80,10 +70,6 @@ pub next_push : (code : List ℕ) (at : ℕ) → (get_or code at 0 ≡ 12 → �
 unfolding place_next
 next_push code at n = rw (ne_eqb (get_or code at 0) 12 n)
 
-pub further_some : (r n : ℕ) → (r ≡ 0 → ⊥) → r + n ≡ further n r
-further_some zero n e = absurd (e refl)
-further_some (suc r) n e = refl
-
 -- ---- Keys cleared
 
 pub record Forgetting (code work₀ : List ℕ) (q₀ c₀ : ℕ) (work : List ℕ) (q c : ℕ) : Type 0 where
@@ -92,26 +78,14 @@ pub record Forgetting (code work₀ : List ℕ) (q₀ c₀ : ℕ) (work : List �
   pub room : length code ≤ length work
   pub long : length work ≡ length work₀
 
-pub forgetting_from : {code work : List ℕ} {q c : ℕ} → Readable code q c → length code ≤ length work → Forgetting code work q c work q c
-forgetting_from r h = record { readable = r; same = refl; room = h; long = refl }
-
 module _ {code work₀ work : List ℕ} {q₀ c₀ q c : ℕ} (f : Forgetting code work₀ q₀ c₀ work q c) where
-  pub forgetting_in : 0 < c → (body_end code q ≤ length code)
-  forgetting_in h = (readable_more code q c f.readable h).0
-
-  step_forgotten : 0 < c → forgotten code work q c ≡ forgotten code (set work q 0) (body_end code q) (c - 1)
+  pub forgetting_on : {m : ℕ} → suc m ≡ c → Forgetting code work₀ q₀ c₀ (set work q 0) (body_end code q) m
   unfolding forgotten
-  step_forgotten h = go c h
-    where
-      go : (c : ℕ) → 0 < c → forgotten code work q c ≡ forgotten code (set work q 0) (body_end code q) (c - 1)
-      go zero h = absurd (omega arith)
-      go (suc c) h = let e : suc c - 1 ≡ c = omega arith in rw e
-
-  pub forgetting_on : 0 < c → Forgetting code work₀ q₀ c₀ (set work q 0) (body_end code q) (c - 1)
-  forgetting_on h =
+  forgetting_on {m} e =
+      let r = subst (λ (k : ℕ). Readable code q k) (sym e) f.readable in
       record {
-        readable = (readable_more code q c f.readable h).1;
-        same = sym (step_forgotten h) ∙ f.same;
+        readable = r.1;
+        same = ap (forgotten code work q) e ∙ f.same;
         room = rw (length-set work q 0) f.room;
         long = length-set work q 0 ∙ f.long;
       }

@@ -11,6 +11,7 @@ use lib.ListN.{length, get_or, set, drop, length-set}
 use borrow.Author.Tests.{ne_eqb}
 use Rattle.documents.specs.Terms.{one, Term}
 use Rattle.documents.proofs.Lists.{never}
+use Rattle.std.specs.Prelude.{Some}
 use Rattle.instructions.specs.declared.body.Found.TheVariants.{Key, Missing}
 use Rattle.instructions.specs.Bodies.{body_end, key_place, place_behind, found_at}
 use Rattle.trees.specs.Trees.{Tree, or_one, or_moved, further, nodes_of, depth_of, reach_of}
@@ -21,7 +22,6 @@ use Rattle.links.specs.Standing.{entry_at, root, Stands}
 use Rattle.links.specs.Sequences.{tree_at, Sequenced}
 use Rattle.links.proofs.Links.{note_nodes, note_reach}
 use Rattle.links.proofs.Keyed.{KeyAt, key_at, key_missing_lem, body_at}
-use Rattle.measurer.specs.declared.Span.TheVariants as span
 use Rattle.measurer.specs.Measuring.{Kept, near, Sequence, Measure, Noted, Memo, push_end, nodes_for, depth_for, reach_for, Free, Frees}
 use Rattle.measurer.proofs.Kept.{kept_none, kept_then, kept_set, set_here, set_there}
 use Rattle.measurer.proofs.Stacking.{stands_deep}
@@ -50,7 +50,7 @@ module _ {code subject entries work : List ℕ} {push c D w inside most : ℕ} (
   -- ---- Without a body
 
   pub meets_none : {far : ℕ} → Missing ≡ found_at (key_place code (push + 4) c y) → far ≡ suc (w + D - 64)
-      → Frees code push c D w inside subject entries work work most (span.Of 1 1 far)
+      → Frees code push c D w inside subject entries work work most (Some (record { nodes = 1; depth = 1; reach = far }))
   meets_none {far} m e =
       let o = found_none _ m in
       let k = key_missing_lem code (push + 4) c y o in
@@ -150,7 +150,7 @@ module _ {code subject entries work : List ℕ} {push c D w inside most : ℕ} (
     noted_reach m = ap reach_in m.note ∙ note_reach (nodes_of ent tree) (reach_of ent tree) (let h = m.few in omega arith)
 
     pub meets_before : {n d far : ℕ} → (z : get_or work k 0 ≡ 0 → ⊥) → n ≡ nodes_in (get_or work (k + 1) 0) → d ≡ depth_in (get_or work (get_or work k 0) 0)
-        → far ≡ further inside (reach_in (get_or work (k + 1) 0)) → Frees code push c D w inside subject entries work work most (span.Of n d far)
+        → far ≡ further inside (reach_in (get_or work (k + 1) 0)) → Frees code push c D w inside subject entries work work most (Some (record { nodes = n; depth = d; reach = far }))
     meets_before {n} {d} {far} z en ed ef =
         let m = noted z in
         let nn : n ≡ nodes_of ent tree = en ∙ ap nodes_in m.note ∙ note_nodes (nodes_of ent tree) (reach_of ent tree) (let h = m.few in omega arith) in
@@ -222,7 +222,7 @@ module _ {code subject entries work : List ℕ} {push c D w inside most : ℕ} (
             rw places₂ (stands_kept code subject entries (drop 4096 work₁) work₁ work₂ (k + 2) (body_end code k) (k + 2) (body_end code k) mid₂ (omega arith) (omega arith) tree (root z) m.stands)
 
         pub meets_now : {d far : ℕ} → get_or work k 0 ≡ 0 → v ≡ note_of n f → d ≡ depth_in (get_or work₂ z 0) → far ≡ further inside f
-            → Frees code push c D w inside subject entries work work₂ most (span.Of n d far)
+            → Frees code push c D w inside subject entries work work₂ most (Some (record { nodes = n; depth = d; reach = far }))
         meets_now {d} {far} zero-was ev ed ef =
             let dd : d ≡ capped (depth_of ent tree) = ed ∙ stands_deep code subject entries (drop 4096 work₂) work₂ (k + 2) (body_end code k) tree z stands₂ in
             let rr : far ≡ further inside (reach_of ent tree) = ef ∙ ap (further inside) m.reach in

@@ -5,6 +5,7 @@ use Prim.Native.Nat.{ℕ, suc, ◌+◌, ◌-◌, ◌*◌, ◌/◌, ◌≤◌, �
 use native.Mathlib.Omega.{arith}
 use mathlib.Core.Bool.{Bool, true, false, cond}
 use mathlib.Core.Option.{none}
+use Rattle.std.specs.Prelude.{Option, Some, None}
 use mathlib.Core.List.{List}
 use lib.Dec.{eqb, ltb}
 use lib.ListN.{length, get_or, drop}
@@ -21,7 +22,6 @@ use Rattle.links.specs.Sequences.{Bodied, keys_at, trees_at}
 use Rattle.links.proofs.Entered.{entered}
 use Rattle.links.proofs.Keyed.{bodied_readable}
 use Rattle.measurer.specs.declared.Span.{Span}
-use Rattle.measurer.specs.declared.Span.TheVariants as span
 use Rattle.measurer.specs.Linking.{place_next, forgotten}
 use Rattle.measurer.specs.Measuring.{Kept, Memos, Walked, Push, PushedAs, Pushes, push_tree, push_end, nodes_for, depth_for, reach_for, Spreading, SpreadAs, Spreads}
 use Rattle.measurer.proofs.Linking.{next_whole, next_push}
@@ -98,8 +98,8 @@ module _ {code : List ℕ} {at : ℕ} {subject entries work : List ℕ} {most : 
     unfolding push_tree
     reach_whole = rw (eq-eqb (get_or code at 0) 12 is)
 
-    pub whole_pushes : {part : List ℕ} {places : ℕ} {work' : List ℕ} {n d far : ℕ} → Spreads code at 0 64 part places subject entries work work' most (span.Of n d far)
-        → Pushes code at subject entries work work' most (span.Of n d 0)
+    pub whole_pushes : {part : List ℕ} {places : ℕ} {work' : List ℕ} {found : Span} → Spreads code at 0 64 part places subject entries work work' most (Some found)
+        → Pushes code at subject entries work work' most (Some (record found { reach = 0 }))
     whole_pushes s =
         let m = s.says in
         record {
@@ -113,8 +113,8 @@ module _ {code : List ℕ} {at : ℕ} {subject entries work : List ℕ} {most : 
           };
         }
 
-    pub whole_large : {part : List ℕ} {places : ℕ} {work' : List ℕ} → Spreads code at 0 64 part places subject entries work work' most span.TooLarge
-        → Pushes code at subject entries work work' most span.TooLarge
+    pub whole_large : {part : List ℕ} {places : ℕ} {work' : List ℕ} → Spreads code at 0 64 part places subject entries work work' most None
+        → Pushes code at subject entries work work' most None
     whole_large s = record { kept = rw (← end_whole) s.kept; says = rw (← size_whole) s.says }
 
   -- ---- PUSHI
@@ -200,12 +200,12 @@ module _ {code : List ℕ} {at : ℕ} {subject entries work : List ℕ} {most : 
               (trees_at code (at + 4) c) (held (keys_at code (at + 4) c) (at + 4)) w.bodies;
         }
 
-    pub push_pushes : {part : List ℕ} {places : ℕ} {work₁ work' : List ℕ} {r : Span} → work₁ ≡ forgotten code work (at + 4) c
+    pub push_pushes : {part : List ℕ} {places : ℕ} {work₁ work' : List ℕ} {r : Option Span} → work₁ ≡ forgotten code work (at + 4) c
         → Spreads code at c (get_or code (at + 2) 0) part places subject entries work₁ work' most r → Pushes code at subject entries work work' most r
     push_pushes {part} {places} {work₁} {work'} {r} f s = record { kept = kept_push f s.kept; says = go r s.says }
       where
-        go : (r : Span) → SpreadAs code subject entries work' at c (get_or code (at + 2) 0) most r → PushedAs code subject entries work' most at r
-        go (span.Of n d far) m =
+        go : (r : Option Span) → SpreadAs code subject entries work' at c (get_or code (at + 2) 0) most r → PushedAs code subject entries work' most at r
+        go (Some found) m =
             let l = end_low in
             record {
               size = m.size ∙ size_push;
@@ -214,4 +214,4 @@ module _ {code : List ℕ} {at : ℕ} {subject entries work : List ℕ} {most : 
               close = let x = m.close in omega arith;
               walked = rw (ne_eqb (get_or code at 0) 12 no) (wider m.walked);
             }
-        go span.TooLarge m = rw (← size_push) m
+        go None m = rw (← size_push) m

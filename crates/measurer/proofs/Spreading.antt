@@ -5,6 +5,7 @@ use native.Mathlib.Nat.{max-le}
 use native.Mathlib.Omega.{arith}
 use mathlib.Core.Bool.{Bool, true, false, ◌&&◌, not, cond}
 use mathlib.Core.Option.{Option, none, some}
+use Rattle.std.specs.Prelude.{Some}
 use mathlib.Core.List.{List}
 use lib.Dec.{ltb, eqb}
 use lib.ListN.{length, get_or, set, drop, length-drop}
@@ -27,7 +28,6 @@ use Rattle.links.proofs.Variables.{free_low}
 use Rattle.links.proofs.Entered.{Entered, entered}
 use Rattle.links.proofs.Spread.{capped_in, total_none, total_on, capped_spread, spread_nodes_lem, spread_depth_lem, spread_reach_lem, Passes, seen_all, PlaceOf, place_of, places_within}
 use Rattle.links.proofs.Keyed.{key_at}
-use Rattle.measurer.specs.declared.Span.TheVariants as span
 use Rattle.measurer.specs.Measuring.{Kept, near, Memos, push_end, nodes_for, depth_for, reach_for, Spreading, Spreads, Free, Meets}
 use Rattle.measurer.proofs.Kept.{kept_none, kept_then, kept_set, set_here, scene_kept}
 use Rattle.measurer.proofs.Memos.{memos_same, memos_stand}
@@ -388,7 +388,7 @@ module _ {code : List ℕ} {push c D : ℕ} {part : List ℕ} {places : ℕ} {su
           let q = seen_all (is_seen work') r (nodes a) part hs (λ i l f. seen_same _ ∙ s.seen i (let k = all in omega arith) f) in
           rw places_same (ap (λ (l : List ℕ). total ◌&&◌ true (node_seen (is_seen work') r) (nodes a) l hs) (sym sp.part_is) ∙ q)
 
-      pub span_end : Spreads code push c D part places subject entries work₀ work' most (span.Of n d far)
+      pub span_end : Spreads code push c D part places subject entries work₀ work' most (Some (record { nodes = n; depth = d; reach = far }))
       span_end =
           let z = all in
           let o = end_low in

@@ -10,8 +10,8 @@ use Rattle.tables.proofs.Walks.{walking_on}
 use Rattle.links.specs.Links.{capped}
 use Rattle.links.specs.Nodewise.{is_free, levels_in, inside_of}
 use Rattle.links.specs.Standing.{entry_place}
+use Rattle.std.specs.Prelude.{Option, Some, None}
 use Rattle.measurer.specs.declared.Span.{Span}
-use Rattle.measurer.specs.declared.Span.TheVariants as span
 use Rattle.measurer.specs.Measuring.{Kept, push_end, Spreading, Spreads, Free, Frees}
 use Rattle.measurer.proofs.Kept.{kept_then}
 use Rattle.measurer.proofs.Answering.{frees_of, frees_large}
@@ -70,29 +70,29 @@ module _ {code : List ℕ} {push c D : ℕ} {part : List ℕ} {places : ℕ} {su
         pub free_here : Free code push c D (get_or part (2 * node) 0) (here % 256) subject entries work most
         free_here = rw inside_is (span_free sp s lo (is_so yes))
 
-        module _ {work₁ : List ℕ} {o : Span} (fs : Frees code push c D (get_or part (2 * node) 0) (here % 256) subject entries work work₁ most o) where
+        module _ {work₁ : List ℕ} {o : Option Span} (fs : Frees code push c D (get_or part (2 * node) 0) (here % 256) subject entries work work₁ most o) where
           same : Frees code push c D (get_or part (2 * node) 0) (inside_of r h) subject entries work work₁ most o
           same = rw inside_is at fs
 
           kept_so : Kept (push + 1) (push_end code push c) work₀ work₁
           kept_so = kept_then s.kept fs.kept (omega arith) (omega arith) (omega arith) (omega arith)
 
-          pub large_here : o ≡ span.TooLarge → Spreads code push c D part places subject entries work₀ work₁ most span.TooLarge
+          pub large_here : o ≡ None → Spreads code push c D part places subject entries work₀ work₁ most None
           large_here e = record { kept = kept_so; says = span_large sp s lo (is_so yes) (frees_large same e) }
 
-          pub meets_here : {n d f : ℕ} → o ≡ span.Of n d f → (1 ≤ n) × (n ≤ 4096) × (d ≤ 65)
-          meets_here {n} {d} e = let m = frees_of same e in (m.some_nodes, m.few_nodes, (let k = m.deep in cap_low _ k))
+          pub meets_here : {found : Span} → o ≡ Some found → (1 ≤ found.nodes) × (found.nodes ≤ 4096) × (found.depth ≤ 65)
+          meets_here {found} e = let m = frees_of same e in (m.some_nodes, m.few_nodes, (let k = m.deep in cap_low _ k))
             where
-              cap_low : (x : ℕ) → d ≡ capped x → d ≤ 65
+              cap_low : (x : ℕ) → found.depth ≡ capped x → found.depth ≤ 65
               cap_low x e = omega arith
 
-          pub larger_here : {n d f : ℕ} → o ≡ span.Of n d f → most < more + (n - 1) → Spreads code push c D part places subject entries work₀ work₁ most span.TooLarge
-          larger_here {n} e l = record { kept = kept_so; says = span_larger sp s lo (is_so yes) n (frees_of same e).size l }
+          pub larger_here : {found : Span} → o ≡ Some found → most < more + (found.nodes - 1) → Spreads code push c D part places subject entries work₀ work₁ most None
+          larger_here {found} e l = record { kept = kept_so; says = span_larger sp s lo (is_so yes) found.nodes (frees_of same e).size l }
 
-          pub met_on : {n d f k' d' far' : ℕ} → o ≡ span.Of n d f → more + (n - 1) ≤ most → k' ≡ max highest here → d' ≡ max deepest (here / 256 + d) → far' ≡ max far f
-              → Spans work₁ (owed - 1 + get_or part (2 * node + 1) 0) (node + 1) (more + (n - 1)) k' d' far'
-          met_on {d = d} e l ek ed ef =
-              span_met sp s lo (is_so yes) fs.kept (frees_of same e) refl l (ek ∙ ap (max highest) here_is) (ed ∙ ap (λ (x : ℕ). max deepest (x + d)) levels_are) ef
+          pub met_on : {found : Span} {k' d' far' : ℕ} → o ≡ Some found → more + (found.nodes - 1) ≤ most → k' ≡ max highest here → d' ≡ max deepest (here / 256 + found.depth) → far' ≡ max far found.reach
+              → Spans work₁ (owed - 1 + get_or part (2 * node + 1) 0) (node + 1) (more + (found.nodes - 1)) k' d' far'
+          met_on {found} e l ek ed ef =
+              span_met sp s lo (is_so yes) fs.kept (frees_of same e) refl l (ek ∙ ap (max highest) here_is) (ed ∙ ap (λ (x : ℕ). max deepest (x + found.depth)) levels_are) ef
 
   module _ {work : List ℕ} {owed node more highest deepest far : ℕ} (s : Spans work owed node more highest deepest far) (done : owed ≤ 0) where
     pub end_small : (places - 4096 + node ≤ 4096) × (4096 ≤ places)

@@ -1,7 +1,8 @@
 -- What the measuring walk asks, and what it says of a tree: nodes, depth and reach, as `Trees` has them; 13 as soon as there are too many nodes. It leaves
 -- the tree standing in the working table (`Standing`).
 use Rattle.std.specs.Prelude.{◌≡◌, ◌⊎◌, ℕ, zero, suc, ◌+◌, ◌-◌, ◌*◌, ◌/◌, ◌≤◌, ◌<◌, true, cond, List, eqb, length, get_or, drop}
-use Rattle.std.proofs.Math.Option.{Option}
+use Rattle.std.specs.Prelude.{Option, Some, None}
+use Rattle.std.proofs.Math.Option as math
 use Rattle.documents.specs.Lists.{assoc, pairlists}
 use Rattle.documents.specs.Terms.{one}
 use Rattle.documents.specs.Instructions.{op_pushimm, op_pushi}
@@ -13,9 +14,7 @@ use Rattle.links.specs.Standing.{entry_place, entry_at, Scene, root, held, Named
 use Rattle.links.specs.Sequences.{tree_at, Sequenced, Bodied, keys_at, trees_at}
 use Rattle.measurer.specs.Linking.{place_next}
 use Rattle.measurer.specs.declared.Measured.{Measured}
-use Rattle.measurer.specs.declared.Measured.TheVariants as measured
 use Rattle.measurer.specs.declared.Span.{Span}
-use Rattle.measurer.specs.declared.Span.TheVariants as span
 
 -- between lo and hi the working table may have changed, elsewhere not
 pub record Kept (lo hi : ℕ) (work work' : List ℕ) : Type 0 where
@@ -46,11 +45,11 @@ module _ (code subject entries work' : List ℕ) (most : ℕ) where
     pub close : far ≤ near (end - from)
     pub stands : Stands code subject entries (drop 4096 work') from end work' (tree_at code from end) (root z)
 
-  abbrev pub MeasuredAs : ℕ → ℕ → Measured → Type 0
-  MeasuredAs from end (measured.Of n far z) = Measure from end n far z
-  MeasuredAs from end measured.TooLarge = most < nodes_of (entry_at subject entries) (tree_at code from end)
+  abbrev pub MeasuredAs : ℕ → ℕ → Option Measured → Type 0
+  MeasuredAs from end (Some m) = Measure from end m.nodes m.reach m.root
+  MeasuredAs from end None = most < nodes_of (entry_at subject entries) (tree_at code from end)
 
-pub record Measures (code : List ℕ) (from end : ℕ) (subject entries work work' : List ℕ) (most : ℕ) (r : Measured) : Type 0 where
+pub record Measures (code : List ℕ) (from end : ℕ) (subject entries work work' : List ℕ) (most : ℕ) (r : Option Measured) : Type 0 where
   pub kept : Kept from end work work'
   pub says : MeasuredAs code subject entries work' most from end r
 
@@ -102,24 +101,24 @@ module _ (code subject entries work' : List ℕ) (most : ℕ) where
     pub close : far ≤ near (place_next code at - at)
     pub walked : Walked code subject entries work' (at + 1) (place_next code at) most at (cond (eqb (get_or code at 0) op_pushimm) 0 (get_or code (at + 3) 0))
 
-  abbrev pub PushedAs : ℕ → Span → Type 0
-  PushedAs at (span.Of n d far) = Pushing at n d far
-  PushedAs at span.TooLarge = most < nodes_of (entry_at subject entries) (push_tree code at)
+  abbrev pub PushedAs : ℕ → Option Span → Type 0
+  PushedAs at (Some s) = Pushing at s.nodes s.depth s.reach
+  PushedAs at None = most < nodes_of (entry_at subject entries) (push_tree code at)
 
-pub record Pushes (code : List ℕ) (at : ℕ) (subject entries work work' : List ℕ) (most : ℕ) (r : Span) : Type 0 where
+pub record Pushes (code : List ℕ) (at : ℕ) (subject entries work work' : List ℕ) (most : ℕ) (r : Option Span) : Type 0 where
   pub kept : Kept (at + 1) (place_next code at) work work'
   pub says : PushedAs code subject entries work' most at r
 
 -- ---- The walk of an entry
 
 -- what is known of the body of a variable
-abbrev pub nodes_for : List ℕ → List ℕ → List ℕ → ℕ → ℕ → ℕ → Option ℕ
+abbrev pub nodes_for : List ℕ → List ℕ → List ℕ → ℕ → ℕ → ℕ → math.Option ℕ
 nodes_for code subject entries q c = assoc (pairlists (keys_at code q c) (nodes_of (entry_at subject entries) (trees_at code q c)))
 
-abbrev pub depth_for : List ℕ → List ℕ → List ℕ → ℕ → ℕ → ℕ → Option ℕ
+abbrev pub depth_for : List ℕ → List ℕ → List ℕ → ℕ → ℕ → ℕ → math.Option ℕ
 depth_for code subject entries q c = assoc (pairlists (keys_at code q c) (depth_of (entry_at subject entries) (trees_at code q c)))
 
-abbrev pub reach_for : List ℕ → List ℕ → List ℕ → ℕ → ℕ → ℕ → Option ℕ
+abbrev pub reach_for : List ℕ → List ℕ → List ℕ → ℕ → ℕ → ℕ → math.Option ℕ
 reach_for code subject entries q c = assoc (pairlists (keys_at code q c) (reach_of (entry_at subject entries) (trees_at code q c)))
 
 -- the place behind a PUSHIMM or PUSHI with c bodies
@@ -145,11 +144,11 @@ module _ (code subject entries work' : List ℕ) (push c D most : ℕ) where
     pub close : far ≤ near (push_end code push c - push)
     pub walked : Walked code subject entries work' (push + 1) (push_end code push c) most push c
 
-  abbrev pub SpreadAs : Span → Type 0
-  SpreadAs (span.Of n d far) = Spanning n d far
-  SpreadAs span.TooLarge = most < spread_nodes (nodes_for code subject entries (push + 4) c) 0 (entry_at subject entries (get_or code (push + 1) 0))
+  abbrev pub SpreadAs : Option Span → Type 0
+  SpreadAs (Some s) = Spanning s.nodes s.depth s.reach
+  SpreadAs None = most < spread_nodes (nodes_for code subject entries (push + 4) c) 0 (entry_at subject entries (get_or code (push + 1) 0))
 
-pub record Spreads (code : List ℕ) (push c D : ℕ) (part : List ℕ) (places : ℕ) (subject entries work work' : List ℕ) (most : ℕ) (r : Span) : Type 0 where
+pub record Spreads (code : List ℕ) (push c D : ℕ) (part : List ℕ) (places : ℕ) (subject entries work work' : List ℕ) (most : ℕ) (r : Option Span) : Type 0 where
   pub kept : Kept (push + 1) (push_end code push c) work work'
   pub says : SpreadAs code subject entries work' push c D most r
 
@@ -179,10 +178,10 @@ module _ (code subject entries work work' : List ℕ) (push c D w inside most : 
     pub seen : seen_at work' (key_place code (push + 4) c (w - inside)) ≡ true
     pub still : (y : ℕ) → seen_at work (key_place code (push + 4) c y) ≡ true → seen_at work' (key_place code (push + 4) c y) ≡ true
 
-  abbrev pub MetAs : Span → Type 0
-  MetAs (span.Of n d far) = Meets n d far
-  MetAs span.TooLarge = most < or_one (nodes_for code subject entries (push + 4) c (w - inside))
+  abbrev pub MetAs : Option Span → Type 0
+  MetAs (Some s) = Meets s.nodes s.depth s.reach
+  MetAs None = most < or_one (nodes_for code subject entries (push + 4) c (w - inside))
 
-pub record Frees (code : List ℕ) (push c D w inside : ℕ) (subject entries work work' : List ℕ) (most : ℕ) (r : Span) : Type 0 where
+pub record Frees (code : List ℕ) (push c D w inside : ℕ) (subject entries work work' : List ℕ) (most : ℕ) (r : Option Span) : Type 0 where
   pub kept : Kept (push + 4) (push_end code push c) work work'
   pub says : MetAs code subject entries work work' push c D w inside most r

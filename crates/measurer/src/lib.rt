@@ -2,16 +2,15 @@
 // its link, so that the tree can then be walked from its root.
 #![tactic(auto)]
 
-ghost use Rattle.std.specs.Prelude.{◌≡◌, ◌+◌, ◌-◌, ◌<◌, ◌≤◌, max, length, get_or, set};
+ghost use Rattle.std.specs.Prelude.{◌≡◌, ◌+◌, ◌-◌, ◌<◌, ◌≤◌, length, get_or, set};
 ghost use Rattle.instructions.specs.Bodies.{Readable};
 ghost use Rattle.trees.specs.Trees.{further};
-ghost use Rattle.links.specs.Links.{capped};
 ghost use Rattle.measurer.specs.Linking.{over_link, plain_link, place_next, forgotten};
 ghost use Rattle.measurer.specs.Measuring.{Sequence, Measures, Push, Pushes, Spreading, Spreads, Free, Frees};
 
 use documents::op::{ADBMAL, LAMBDA, PUSHIMM, PUSHVAR, fixed_words};
 use instructions::body::{Found, behind, find};
-use links::link::{before, depth, link, nodes, note, reach};
+use links::link::{Link, Note};
 use links::variable::{is_free, moved};
 use links::{LEVEL, NODES_AT};
 use tables::compare::D_SHIFT;
@@ -19,21 +18,23 @@ use tables::compare::D_SHIFT;
 // Depths over the limit are not told apart.
 const OVER_DEPTH: u32 = 65;
 
-#[derive(Drop)]
-pub enum Measured {
-    // nodes, reach, the root's place
-    Of(usize, u32, usize),
-    TooLarge,
+// What instructions make, with the place of its root.
+#[derive(Clone, Copy)]
+pub struct Measured {
+    pub nodes: usize,
+    pub reach: u32,
+    pub root: usize,
 }
 
-#[derive(Drop)]
-pub enum Span {
-    // nodes, depth, reach
-    Of(usize, u32, u32),
-    TooLarge,
+// What an entry becomes, or a variable of it.
+#[derive(Clone, Copy)]
+pub struct Span {
+    pub nodes: usize,
+    pub depth: u32,
+    pub reach: u32,
 }
 
-// Instructions that make one term, to their end.
+// Instructions that make one term, to their end; nothing as soon as there are too many nodes.
 #[cycle(free_measure_push_spread)]
 pub fn measure(
     code: &[u32],
@@ -43,7 +44,7 @@ pub fn measure(
     entries: &[u32],
     work: &mut [u32],
     most: usize,
-) -> Measured
+) -> Option<Measured>
     requires { Sequence code.now from end subject.now entries.now work.old most }
     ensures { Measures code.now from end subject.now entries.now work.old work.new most result }
 {
@@ -51,51 +52,36 @@ pub fn measure(
     let mut last: usize = 0;
     let mut sum: usize = 0;
     let mut farthest: u32 = 0;
+    // Kept (point 3): an instruction is as wide as its opcode and its bodies make it, so no range has the places.
     while at < end {
         let op = code[at];
         if op == LAMBDA {
             at += 1;
         } else if op < PUSHIMM {
             if most <= sum {
-                return Measured::TooLarge;
+                return None;
             }
             put_link(code, at, work, last);
             sum += 1;
             last = at;
             at = at + 1 + fixed_words(op as usize) as usize;
         } else {
-            let Span::Of(more, deep, far) = push(code, at, subject, entries, work, most) else {
-                return Measured::TooLarge;
-            };
-            if most - sum < more {
-                return Measured::TooLarge;
+            let span = push(code, at, subject, entries, work, most)?;
+            if most - sum < span.nodes {
+                return None;
             }
-            work[at] = link(last, 0, deep);
-            sum += more;
-            farthest = greater(farthest, far);
+            work[at] = Link::new(last, 0, span.depth).0;
+            sum += span.nodes;
+            farthest = farthest.max(span.reach);
             last = at;
             at = next(code, at);
         }
     }
-    Measured::Of(sum, farthest, last)
-}
-
-fn greater(a: u32, b: u32) -> u32
-    ensures { result ≡ max a b }
-{
-    if a < b {
-        return b;
-    }
-    a
-}
-
-fn cap(depth: u32) -> u32
-    ensures { result ≡ capped depth }
-{
-    if OVER_DEPTH < depth {
-        return OVER_DEPTH;
-    }
-    depth
+    Some(Measured {
+        nodes: sum,
+        reach: farthest,
+        root: last,
+    })
 }
 
 // What reaches so far, under so many abstractions of an entry.
@@ -103,10 +89,7 @@ fn shifted(reach: u32, inside: u32) -> u32
     requires { (reach < 524288) × (inside < 256) }
     ensures { result ≡ further inside reach }
 {
-    if reach == 0 {
-        return 0;
-    }
-    reach + inside
+    if reach == 0 { 0 } else { reach + inside }
 }
 
 // The link of a CELL, ADBMAL or PUSHVAR.
@@ -116,14 +99,12 @@ fn put_link(code: &[u32], at: usize, work: &mut [u32], last: usize)
 {
     let op = code[at];
     if op == PUSHVAR {
-        work[at] = link(last, 0, 1);
-        return;
-    }
-    if op == ADBMAL {
+        work[at] = Link::new(last, 0, 1).0;
+    } else if op == ADBMAL {
         put_over(at, work, last, 1);
-        return;
+    } else {
+        put_over(at, work, last, code[at + 2]);
     }
-    put_over(at, work, last, code[at + 2]);
 }
 
 // The link of an instruction over so many trees, the root of the last given.
@@ -131,16 +112,14 @@ fn put_over(at: usize, work: &mut [u32], last: usize, count: u32)
     requires { (at < 4096) × (last < 4096) × (4096 ≤ length work.old) }
     ensures { work.new ≡ set work.old at (over_link work.old count last) }
 {
-    let mut left = count;
     let mut root = last;
     let mut deepest: u32 = 0;
-    while 0 < left {
-        let word = work[root];
-        deepest = greater(deepest, depth(word));
-        root = before(word);
-        left -= 1;
+    for _ in 0..count {
+        let link = Link(work[root]);
+        deepest = deepest.max(link.depth());
+        root = link.before();
     }
-    work[at] = link(root, last, cap(deepest + 1));
+    work[at] = Link::new(root, last, (deepest + 1).min(OVER_DEPTH)).0;
 }
 
 // The place behind a PUSHIMM or PUSHI.
@@ -149,9 +128,10 @@ fn next(code: &[u32], at: usize) -> usize
     ensures { result ≡ place_next code.now at }
 {
     if code[at] == PUSHIMM {
-        return at + 2;
+        at + 2
+    } else {
+        behind(code, at + 4, code[at + 3])
     }
-    behind(code, at + 4, code[at + 3])
 }
 
 // A PUSHI, or a PUSHIMM, which has no bodies and moves nothing. The entry is handed on as the part of the subject that begins with it.
@@ -163,13 +143,13 @@ fn push(
     entries: &[u32],
     work: &mut [u32],
     most: usize,
-) -> Span
+) -> Option<Span>
     requires { Push code.now at subject.now entries.now work.old most }
     ensures { Pushes code.now at subject.now entries.now work.old work.new most result }
 {
     let first = entries[entries.len() - 1 - code[at + 1] as usize] as usize;
     if code[at] == PUSHIMM {
-        let Span::Of(nodes, deep, _) = spread(
+        let span = spread(
             code,
             at,
             0,
@@ -180,10 +160,8 @@ fn push(
             entries,
             work,
             most,
-        ) else {
-            return Span::TooLarge;
-        };
-        return Span::Of(nodes, deep, 0);
+        )?;
+        return Some(Span { reach: 0, ..span });
     }
     let count = code[at + 3];
     forget(code, at + 4, count, work);
@@ -207,11 +185,9 @@ fn forget(code: &[u32], bodies: usize, count: u32, work: &mut [u32])
     ensures { work.new ≡ forgotten code.now work.old bodies count }
 {
     let mut at = bodies;
-    let mut left = count;
-    while 0 < left {
+    for _ in 0..count {
         work[at] = 0;
         at = at + 2 + code[at + 1] as usize;
-        left -= 1;
     }
 }
 
@@ -231,7 +207,7 @@ fn spread(
     entries: &[u32],
     work: &mut [u32],
     most: usize,
-) -> Span
+) -> Option<Span>
     requires { Spreading code.now push count shift part.now places subject.now entries.now work.old most }
     ensures { Spreads code.now push count shift part.now places subject.now entries.now work.old work.new most result }
 {
@@ -242,14 +218,15 @@ fn spread(
     let mut highest: u32 = 0;
     let mut deepest: u32 = 0;
     let mut farthest: u32 = 0;
+    // Kept (point 3): how many nodes an entry has is what the walk finds out, so no range or part has them.
     while 0 < owed {
         let word = part[2 * node];
         let here = work[places + node] - root;
         owed = owed - 1 + part[2 * node + 1] as usize;
         node += 1;
-        highest = greater(highest, here);
+        highest = highest.max(here);
         if is_free(word, here % LEVEL) {
-            let Span::Of(nodes, deep, far) = free(
+            let span = free(
                 code,
                 push,
                 count,
@@ -260,20 +237,21 @@ fn spread(
                 entries,
                 work,
                 most,
-            ) else {
-                return Span::TooLarge;
-            };
-            more += nodes - 1;
+            )?;
+            more += span.nodes - 1;
             if most < more {
-                return Span::TooLarge;
+                return None;
             }
-            deepest = greater(deepest, here / LEVEL + deep);
-            farthest = greater(farthest, far);
+            deepest = deepest.max(here / LEVEL + span.depth);
+            farthest = farthest.max(span.reach);
         }
     }
     work[push + 1] = (2 * (places - NODES_AT + node)) as u32;
-    let all = node + more;
-    Span::Of(all, cap(greater(deepest, highest / LEVEL + 1)), farthest)
+    Some(Span {
+        nodes: node + more,
+        depth: deepest.max(highest / LEVEL + 1).min(OVER_DEPTH),
+        reach: farthest,
+    })
 }
 
 // A variable that is free in an entry, under so many abstractions of it. A body is measured where it is first met.
@@ -289,29 +267,36 @@ fn free(
     entries: &[u32],
     work: &mut [u32],
     most: usize,
-) -> Span
+) -> Option<Span>
     requires { Free code.now push count shift word inside subject.now entries.now work.old most }
     ensures { Frees code.now push count shift word inside subject.now entries.now work.old work.new most result }
 {
     let Found::Key(key) = find(code, push + 4, count, word - inside) else {
-        return Span::Of(1, 1, moved(word, shift) + 1);
+        return Some(Span {
+            nodes: 1,
+            depth: 1,
+            reach: moved(word, shift) + 1,
+        });
     };
     if work[key] == 0 {
         let from = key + 2;
         let end = from + code[key + 1] as usize;
-        let Measured::Of(nodes, far, root) = measure(code, from, end, subject, entries, work, most)
-        else {
-            return Span::TooLarge;
-        };
+        let Measured { nodes, reach, root } = measure(
+            code, from, end, subject, entries, work, most,
+        )?;
         work[key] = root as u32;
-        work[key + 1] = note(nodes, far);
-        return Span::Of(nodes, depth(work[root]), shifted(far, inside));
+        work[key + 1] = Note::new(nodes, reach).0;
+        return Some(Span {
+            nodes,
+            depth: Link(work[root]).depth(),
+            reach: shifted(reach, inside),
+        });
     }
-    let noted = work[key + 1];
+    let note = Note(work[key + 1]);
     let root = work[key] as usize;
-    Span::Of(
-        nodes(noted),
-        depth(work[root]),
-        shifted(reach(noted), inside),
-    )
+    Some(Span {
+        nodes: note.nodes(),
+        depth: Link(work[root]).depth(),
+        reach: shifted(note.reach(), inside),
+    })
 }

@@ -52,11 +52,11 @@ free-overflow_add-end-then-work-key-eq0 t c = let b = key_in c.requires (sym c.i
 pub free-measure-requires : goal.free-measure-requires
 free-measure-requires t c = let K = sym c.in-Key.is ∙ c.find.ensures in ((let m = c.decreases in let e = body_end_lem c.requires K in let l = body_low c.requires K in omega arith), body_sequence c.requires K)
 
-pub free-returns-in_default-measure : goal.free-returns-in_default-measure
-free-returns-in_default-measure t c = meets_too_large c.requires (sym c.in-Key.is ∙ c.find.ensures) c.measure.ensures.kept (measures_large c.measure.ensures c.in_default-measure.is)
+pub free-returns-in_err-nodes : goal.free-returns-in_err-nodes
+free-returns-in_err-nodes t c = rw c.from_residual.ensures (meets_too_large c.requires (sym c.in-Key.is ∙ c.find.ensures) c.measure.ensures.kept (measures_large c.measure.ensures c.in_err-nodes.was))
 
 pub free-overflow_cast-work : goal.free-overflow_cast-work
-free-overflow_cast-work t c = let z = root_small c.requires (sym c.in-Key.is ∙ c.find.ensures) c.measure.ensures.kept (measures_of c.measure.ensures c.in-Of.is) in search rules
+free-overflow_cast-work t c = let z = root_small c.requires (sym c.in-Key.is ∙ c.find.ensures) c.measure.ensures.kept (measures_of c.measure.ensures c.in_ok-nodes.was) in search rules
 
 pub free-offset_bounds-work-key-then-work-key-eq0 : goal.free-offset_bounds-work-key-then-work-key-eq0
 free-offset_bounds-work-key-then-work-key-eq0 t c = let b = key_long c.requires (sym c.in-Key.is ∙ c.find.ensures) in search rules
@@ -64,8 +64,8 @@ free-offset_bounds-work-key-then-work-key-eq0 t c = let b = key_long c.requires 
 pub free-bounds-work-key-then-work-key-eq0 : goal.free-bounds-work-key-then-work-key-eq0
 free-bounds-work-key-then-work-key-eq0 t c = let b = key_long c.requires (sym c.in-Key.is ∙ c.find.ensures) in let l = c.measure.ensures.kept.long in omega arith
 
-pub free-note-requires : goal.free-note-requires
-free-note-requires t c = let K = sym c.in-Key.is ∙ c.find.ensures in let m = measures_of c.measure.ensures c.in-Of.is in ((let a = m.fits in let f = c.requires.few in omega arith), small_reach c.requires K _ m.close)
+pub free-new-requires : goal.free-new-requires
+free-new-requires t c = let K = sym c.in-Key.is ∙ c.find.ensures in let m = measures_of c.measure.ensures c.in_ok-nodes.was in ((let a = m.fits in let f = c.requires.few in omega arith), small_reach c.requires K _ m.close)
 
 pub free-overflow_add-work : goal.free-overflow_add-work
 free-overflow_add-work t c = let b = key_in c.requires (sym c.in-Key.is ∙ c.find.ensures) in let s = c.requires.scene.code_short in search rules
@@ -74,22 +74,22 @@ pub free-offset_bounds-work-key-then-work-key-eq0-2 : goal.free-offset_bounds-wo
 free-offset_bounds-work-key-then-work-key-eq0-2 t c = let b = key_in c.requires (sym c.in-Key.is ∙ c.find.ensures) in let s = c.requires.scene.code_short in search rules
 
 pub free-bounds-work-key-then-work-key-eq0-2 : goal.free-bounds-work-key-then-work-key-eq0-2
-free-bounds-work-key-then-work-key-eq0-2 t c = note_room c.requires (sym c.in-Key.is ∙ c.find.ensures) c.measure.ensures.kept (measures_of c.measure.ensures c.in-Of.is) 0
+free-bounds-work-key-then-work-key-eq0-2 t c = note_room c.requires (sym c.in-Key.is ∙ c.find.ensures) c.measure.ensures.kept (measures_of c.measure.ensures c.in_ok-nodes.was) 0
 
 pub free-offset_bounds-work-root : goal.free-offset_bounds-work-root
-free-offset_bounds-work-root t c = let z = root_small c.requires (sym c.in-Key.is ∙ c.find.ensures) c.measure.ensures.kept (measures_of c.measure.ensures c.in-Of.is) in search rules
+free-offset_bounds-work-root t c = let z = root_small c.requires (sym c.in-Key.is ∙ c.find.ensures) c.measure.ensures.kept (measures_of c.measure.ensures c.in_ok-nodes.was) in search rules
 
 pub free-bounds-work-root : goal.free-bounds-work-root
-free-bounds-work-root t c = depth_room c.requires (sym c.in-Key.is ∙ c.find.ensures) c.measure.ensures.kept (measures_of c.measure.ensures c.in-Of.is) _
+free-bounds-work-root t c = depth_room c.requires (sym c.in-Key.is ∙ c.find.ensures) c.measure.ensures.kept (measures_of c.measure.ensures c.in_ok-nodes.was) _
 
 pub free-shifted-requires : goal.free-shifted-requires
-free-shifted-requires t c = let K = sym c.in-Key.is ∙ c.find.ensures in let m = measures_of c.measure.ensures c.in-Of.is in (small_reach c.requires K _ m.close, (let s = c.requires.shallow in omega arith))
+free-shifted-requires t c = let K = sym c.in-Key.is ∙ c.find.ensures in let m = measures_of c.measure.ensures c.in_ok-nodes.was in (small_reach c.requires K _ m.close, (let s = c.requires.shallow in omega arith))
 
 pub free-returns-then-work-key-eq0 : goal.free-returns-then-work-key-eq0
-free-returns-then-work-key-eq0 t c = meets_now c.requires (sym c.in-Key.is ∙ c.find.ensures) c.measure.ensures.kept (measures_of c.measure.ensures c.in-Of.is) _ c.if-work-key-eq0.true c.note.ensures c.depth.ensures.0 c.shifted.ensures
+free-returns-then-work-key-eq0 t c = meets_now c.requires (sym c.in-Key.is ∙ c.find.ensures) c.measure.ensures.kept (measures_of c.measure.ensures c.in_ok-nodes.was) _ c.if-work-key-eq0.true c.new.ensures c.depth.ensures.0 c.shifted.ensures
 
-pub free-overflow_add-noted : goal.free-overflow_add-noted
-free-overflow_add-noted t c = let b = key_long c.requires (sym c.in-Key.is ∙ c.find.ensures) in search rules
+pub free-overflow_add-note : goal.free-overflow_add-note
+free-overflow_add-note t c = let b = key_long c.requires (sym c.in-Key.is ∙ c.find.ensures) in search rules
 
 pub free-offset_bounds-work-key-2 : goal.free-offset_bounds-work-key-2
 free-offset_bounds-work-key-2 t c = let b = key_long c.requires (sym c.in-Key.is ∙ c.find.ensures) in search rules
@@ -136,14 +136,14 @@ measure-loop-at-preserved-then-op-lt-PUSHIMM t c = growing_plain c.requires c.lo
 pub measure-push-requires : goal.measure-push-requires
 measure-push-requires t c = let P = pushable _ _ _ _ _ _ _ c.requires c.loop-at.invariant c.loop-at-test.true (let h = c.if-op-lt-PUSHIMM.false in omega arith) in (push_falls c.requires c.loop-at.invariant c.loop-at-test.true P _ c.decreases, P.push)
 
-pub measure-returns-in_default : goal.measure-returns-in_default
-measure-returns-in_default t c = let P = pushable _ _ _ _ _ _ _ c.requires c.loop-at.invariant c.loop-at-test.true (let h = c.if-op-lt-PUSHIMM.false in omega arith) in push_answer c.requires c.loop-at.invariant c.loop-at-test.true P c.push.ensures.kept (pushes_large c.push.ensures c.in_default.is)
+pub measure-returns-in_err-span : goal.measure-returns-in_err-span
+measure-returns-in_err-span t c = rw c.from_residual.ensures (let P = pushable _ _ _ _ _ _ _ c.requires c.loop-at.invariant c.loop-at-test.true (let h = c.if-op-lt-PUSHIMM.false in omega arith) in push_answer c.requires c.loop-at.invariant c.loop-at-test.true P c.push.ensures.kept (pushes_large c.push.ensures c.in_err-span.was))
 
 pub measure-returns-then-most-sum-2 : goal.measure-returns-then-most-sum-2
-measure-returns-then-most-sum-2 t c = let P = pushable _ _ _ _ _ _ _ c.requires c.loop-at.invariant c.loop-at-test.true (let h = c.if-op-lt-PUSHIMM.false in omega arith) in over_answer c.requires c.loop-at.invariant c.loop-at-test.true P c.push.ensures.kept (pushes_of c.push.ensures c.in-Of.is).size c.if-most-sum-2.true
+measure-returns-then-most-sum-2 t c = let P = pushable _ _ _ _ _ _ _ c.requires c.loop-at.invariant c.loop-at-test.true (let h = c.if-op-lt-PUSHIMM.false in omega arith) in over_answer c.requires c.loop-at.invariant c.loop-at-test.true P c.push.ensures.kept (pushes_of c.push.ensures c.in_ok-span.was).size c.if-most-sum-2.true
 
-pub measure-link-requires : goal.measure-link-requires
-measure-link-requires t c = let z = c.loop-at.invariant.root_low in let h = c.loop-at.invariant.high in let i = c.requires.inside in let u = c.requires.scene.code_short in let d = (pushes_of c.push.ensures c.in-Of.is).deep in let l = c.loop-at-test.true in (omega arith, omega arith, omega arith)
+pub measure-new-requires : goal.measure-new-requires
+measure-new-requires t c = let z = c.loop-at.invariant.root_low in let h = c.loop-at.invariant.high in let i = c.requires.inside in let u = c.requires.scene.code_short in let d = (pushes_of c.push.ensures c.in_ok-span.was).deep in let l = c.loop-at-test.true in (omega arith, omega arith, omega arith)
 
 pub measure-next-at-requires : goal.measure-next-at-requires
 measure-next-at-requires t c = let P = pushable _ _ _ _ _ _ _ c.requires c.loop-at.invariant c.loop-at-test.true (let h = c.if-op-lt-PUSHIMM.false in omega arith) in next_pre c.requires c.loop-at.invariant c.loop-at-test.true P
@@ -152,7 +152,7 @@ pub measure-loop-at-smaller : goal.measure-loop-at-smaller
 measure-loop-at-smaller t c = let P = pushable _ _ _ _ _ _ _ c.requires c.loop-at.invariant c.loop-at-test.true (let h = c.if-op-lt-PUSHIMM.false in omega arith) in let w = P.wide in let e = c.next-at.ensures in let l = c.loop-at-test.true in omega arith
 
 pub measure-loop-at-preserved : goal.measure-loop-at-preserved
-measure-loop-at-preserved t c = let P = pushable _ _ _ _ _ _ _ c.requires c.loop-at.invariant c.loop-at-test.true (let h = c.if-op-lt-PUSHIMM.false in omega arith) in growing_at c.requires c.loop-at.invariant c.loop-at-test.true P c.push.ensures.kept (pushes_of c.push.ensures c.in-Of.is) c.if-most-sum-2.false c.link.ensures c.greater-farthest.ensures c.next-at.ensures
+measure-loop-at-preserved t c = let P = pushable _ _ _ _ _ _ _ c.requires c.loop-at.invariant c.loop-at-test.true (let h = c.if-op-lt-PUSHIMM.false in omega arith) in growing_at c.requires c.loop-at.invariant c.loop-at-test.true P c.push.ensures.kept (pushes_of c.push.ensures c.in_ok-span.was) c.if-most-sum-2.false c.new.ensures c.max-farthest.ensures c.next-at.ensures
 
 pub measure-returns : goal.measure-returns
 measure-returns t c = end_answer c.requires c.loop-at.invariant (omega arith)
@@ -175,11 +175,11 @@ push-overflow_add-first-then-code-at-eq-PUSHIMM t c = let l = first_low c.requir
 pub push-spread-requires : goal.push-spread-requires
 push-spread-requires t c = let s = c.args in (whole_falls c.requires c.if-code-at-eq-PUSHIMM.true _ c.decreases, whole_spreading c.requires c.if-code-at-eq-PUSHIMM.true (from_drop (entry_place s.entries.now (get_or s.code.now (s.at + 1) 0)) s.subject.now) refl)
 
-pub push-returns-in_default : goal.push-returns-in_default
-push-returns-in_default t c = whole_large c.requires c.if-code-at-eq-PUSHIMM.true (spreads_are c.spread.ensures c.in_default.is)
+pub push-returns-in_err-span : goal.push-returns-in_err-span
+push-returns-in_err-span t c = rw c.from_residual.ensures (whole_large c.requires c.if-code-at-eq-PUSHIMM.true (spreads_are c.spread.ensures c.in_err-span.was))
 
 pub push-returns-then-code-at-eq-PUSHIMM : goal.push-returns-then-code-at-eq-PUSHIMM
-push-returns-then-code-at-eq-PUSHIMM t c = whole_pushes c.requires c.if-code-at-eq-PUSHIMM.true (spreads_are c.spread.ensures c.in-Of.is)
+push-returns-then-code-at-eq-PUSHIMM t c = whole_pushes c.requires c.if-code-at-eq-PUSHIMM.true (spreads_are c.spread.ensures c.in_ok-span.was)
 
 pub push-bounds-code-at-3 : goal.push-bounds-code-at-3
 push-bounds-code-at-3 t c = let b = (bodies_pre c.requires c.if-code-at-eq-PUSHIMM.false).0 in omega arith
@@ -238,26 +238,26 @@ spread-overflow_add-owed-in-loop-owed t c = let k = next_words c.requires c.loop
 pub spread-free-requires : goal.spread-free-requires
 spread-free-requires t c = ((let m = c.decreases in omega arith), free_here c.requires c.loop-owed.invariant.0 c.loop-owed.invariant.1 c.loop-owed-test.true c.is_free.ensures c.if-is_free.true)
 
-pub spread-returns-in_default : goal.spread-returns-in_default
-spread-returns-in_default t c = large_here c.requires c.loop-owed.invariant.0 c.loop-owed.invariant.1 c.loop-owed-test.true c.is_free.ensures c.if-is_free.true c.free.ensures c.in_default.is
+pub spread-returns-in_err-span : goal.spread-returns-in_err-span
+spread-returns-in_err-span t c = rw c.from_residual.ensures (large_here c.requires c.loop-owed.invariant.0 c.loop-owed.invariant.1 c.loop-owed-test.true c.is_free.ensures c.if-is_free.true c.free.ensures c.in_err-span.was)
 
 pub spread-overflow_sub-more : goal.spread-overflow_sub-more
-spread-overflow_sub-more t c = let m = meets_here c.requires c.loop-owed.invariant.0 c.loop-owed.invariant.1 c.loop-owed-test.true c.is_free.ensures c.if-is_free.true c.free.ensures c.in-Of.is in let a = m.0 in search rules
+spread-overflow_sub-more t c = let m = meets_here c.requires c.loop-owed.invariant.0 c.loop-owed.invariant.1 c.loop-owed-test.true c.is_free.ensures c.if-is_free.true c.free.ensures c.in_ok-span.was in let a = m.0 in search rules
 
 pub spread-overflow_add-more : goal.spread-overflow_add-more
-spread-overflow_add-more t c = let m = meets_here c.requires c.loop-owed.invariant.0 c.loop-owed.invariant.1 c.loop-owed-test.true c.is_free.ensures c.if-is_free.true c.free.ensures c.in-Of.is in let a = m.1 in let f = c.loop-owed.invariant.0.few in let g = c.requires.few in search rules
+spread-overflow_add-more t c = let m = meets_here c.requires c.loop-owed.invariant.0 c.loop-owed.invariant.1 c.loop-owed-test.true c.is_free.ensures c.if-is_free.true c.free.ensures c.in_ok-span.was in let a = m.1 in let f = c.loop-owed.invariant.0.few in let g = c.requires.few in search rules
 
 pub spread-returns-then-most-more : goal.spread-returns-then-most-more
-spread-returns-then-most-more t c = larger_here c.requires c.loop-owed.invariant.0 c.loop-owed.invariant.1 c.loop-owed-test.true c.is_free.ensures c.if-is_free.true c.free.ensures c.in-Of.is c.if-most-more.true
+spread-returns-then-most-more t c = larger_here c.requires c.loop-owed.invariant.0 c.loop-owed.invariant.1 c.loop-owed-test.true c.is_free.ensures c.if-is_free.true c.free.ensures c.in_ok-span.was c.if-most-more.true
 
 pub spread-overflow_add-here-then-is_free : goal.spread-overflow_add-here-then-is_free
-spread-overflow_add-here-then-is_free t c = let m = meets_here c.requires c.loop-owed.invariant.0 c.loop-owed.invariant.1 c.loop-owed-test.true c.is_free.ensures c.if-is_free.true c.free.ensures c.in-Of.is in let a = m.2 in let k = few_levels c.requires c.loop-owed.invariant.0 c.loop-owed.invariant.1 c.loop-owed-test.true in search rules
+spread-overflow_add-here-then-is_free t c = let m = meets_here c.requires c.loop-owed.invariant.0 c.loop-owed.invariant.1 c.loop-owed-test.true c.is_free.ensures c.if-is_free.true c.free.ensures c.in_ok-span.was in let a = m.2 in let k = few_levels c.requires c.loop-owed.invariant.0 c.loop-owed.invariant.1 c.loop-owed-test.true in search rules
 
 pub spread-loop-owed-preserved-then-is_free : goal.spread-loop-owed-preserved-then-is_free
-spread-loop-owed-preserved-then-is_free t c = (met_on c.requires c.loop-owed.invariant.0 c.loop-owed.invariant.1 c.loop-owed-test.true c.is_free.ensures c.if-is_free.true c.free.ensures c.in-Of.is (let h = c.if-most-more.false in omega arith) c.greater-highest.ensures c.greater-deepest.ensures c.greater-farthest.ensures, c.loop-owed.invariant.1)
+spread-loop-owed-preserved-then-is_free t c = (met_on c.requires c.loop-owed.invariant.0 c.loop-owed.invariant.1 c.loop-owed-test.true c.is_free.ensures c.if-is_free.true c.free.ensures c.in_ok-span.was (let h = c.if-most-more.false in omega arith) c.max-highest.ensures c.max-deepest.ensures c.max-farthest.ensures, c.loop-owed.invariant.1)
 
 pub spread-loop-owed-preserved : goal.spread-loop-owed-preserved
-spread-loop-owed-preserved t c = (pass_on c.requires c.loop-owed.invariant.0 c.loop-owed.invariant.1 c.loop-owed-test.true c.is_free.ensures c.if-is_free.false c.greater-highest.ensures, c.loop-owed.invariant.1)
+spread-loop-owed-preserved t c = (pass_on c.requires c.loop-owed.invariant.0 c.loop-owed.invariant.1 c.loop-owed-test.true c.is_free.ensures c.if-is_free.false c.max-highest.ensures, c.loop-owed.invariant.1)
 
 pub spread-overflow_sub-work : goal.spread-overflow_sub-work
 spread-overflow_sub-work t c = let e = end_small c.requires c.loop-owed.invariant.0 (omega arith) in let b = e.1 in search rules
@@ -272,4 +272,4 @@ pub spread-overflow_cast-work : goal.spread-overflow_cast-work
 spread-overflow_cast-work t c = let e = end_small c.requires c.loop-owed.invariant.0 (omega arith) in let a = e.0 in let b = e.1 in search rules
 
 pub spread-returns : goal.spread-returns
-spread-returns t c = span_end c.requires c.loop-owed.invariant.0 (omega arith) refl refl c.greater.ensures c.cap.ensures
+spread-returns t c = span_end c.requires c.loop-owed.invariant.0 (omega arith) refl refl c.max.ensures c.min.ensures
