@@ -8,7 +8,6 @@ use lib.Dec.{eqb}
 use lib.ListN.{length, get_or, set}
 use borrow.Author.Tests.{eqb-true, eqb-false}
 use Rattle.documents.specs.Instructions.{fixed_after}
-use Rattle.instructions.specs.declared.body.Found.TheVariants.{Key}
 use Rattle.instructions.specs.Bodies.{body_end, key_place, found_at, Readable}
 use Rattle.trees.specs.Trees.{or_one, nodes_of}
 use Rattle.links.specs.Links.{link_of, reach_in}
@@ -58,7 +57,7 @@ frees_large m e = let k = rw e at m.says in k
 -- ---- free
 
 module _ {code subject entries work : List ℕ} {push c D w inside most : ℕ} (fr : Free code push c D w inside subject entries work most)
-    {k : ℕ} (key : Key k ≡ found_at (key_place code (push + 4) c (w - inside))) where
+    {k : ℕ} (key : Some k ≡ found_at (key_place code (push + 4) c (w - inside))) where
   pub meets_too_large : {work₁ : List ℕ} → Kept (k + 2) (body_end code k) work work₁ → most < nodes_of (entry_at subject entries) (tree_at code (k + 2) (body_end code k))
       → Frees code push c D w inside subject entries work work₁ most None
   meets_too_large kp l =

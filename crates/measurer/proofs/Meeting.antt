@@ -11,8 +11,7 @@ use lib.ListN.{length, get_or, set, drop, length-set}
 use borrow.Author.Tests.{ne_eqb}
 use Rattle.documents.specs.Terms.{one, Term}
 use Rattle.documents.proofs.Lists.{never}
-use Rattle.std.specs.Prelude.{Some}
-use Rattle.instructions.specs.declared.body.Found.TheVariants.{Key, Missing}
+use Rattle.std.specs.Prelude.{Some, None}
 use Rattle.instructions.specs.Bodies.{body_end, key_place, place_behind, found_at}
 use Rattle.trees.specs.Trees.{Tree, or_one, or_moved, further, nodes_of, depth_of, reach_of}
 use Rattle.trees.proofs.Sizes.{nodes_positive, depth_positive_of}
@@ -28,11 +27,11 @@ use Rattle.measurer.proofs.Stacking.{stands_deep}
 use Rattle.measurer.proofs.Standing.{stands_kept, root_in}
 use Rattle.measurer.proofs.Memos.{memo_at, memos_note, seen_still}
 
-found_key : (o : Option ℕ) (k : ℕ) → Key k ≡ found_at o → o ≡ some k
+found_key : (o : Option ℕ) (k : ℕ) → Some k ≡ found_at o → o ≡ some k
 found_key none k e = never (cc)
 found_key (some j) k e = let q : k ≡ j = cc in rw q
 
-found_none : (o : Option ℕ) → Missing ≡ found_at o → o ≡ none
+found_none : (o : Option ℕ) → None ≡ found_at o → o ≡ none
 found_none none e = refl
 found_none (some j) e = never (cc)
 
@@ -49,7 +48,7 @@ module _ {code subject entries work : List ℕ} {push c D w inside most : ℕ} (
 
   -- ---- Without a body
 
-  pub meets_none : {far : ℕ} → Missing ≡ found_at (key_place code (push + 4) c y) → far ≡ suc (w + D - 64)
+  pub meets_none : {far : ℕ} → None ≡ found_at (key_place code (push + 4) c y) → far ≡ suc (w + D - 64)
       → Frees code push c D w inside subject entries work work most (Some (record { nodes = 1; depth = 1; reach = far }))
   meets_none {far} m e =
       let o = found_none _ m in
@@ -72,7 +71,7 @@ module _ {code subject entries work : List ℕ} {push c D w inside most : ℕ} (
 
   -- ---- With a body at k
 
-  module _ {k : ℕ} (key : Key k ≡ found_at (key_place code (push + 4) c y)) where
+  module _ {k : ℕ} (key : Some k ≡ found_at (key_place code (push + 4) c y)) where
     found : key_place code (push + 4) c y ≡ some k
     found = found_key _ k key
 

@@ -9,7 +9,7 @@ ghost use Rattle.measurer.specs.Linking.{over_link, plain_link, place_next, forg
 ghost use Rattle.measurer.specs.Measuring.{Sequence, Measures, Push, Pushes, Spreading, Spreads, Free, Frees};
 
 use documents::op::{ADBMAL, LAMBDA, PUSHIMM, PUSHVAR, fixed_words};
-use instructions::body::{Found, behind, find};
+use instructions::body::{behind, find};
 use links::link::{Link, Note};
 use links::variable::{is_free, moved};
 use links::{LEVEL, NODES_AT};
@@ -271,7 +271,7 @@ fn free(
     requires { Free code.now push count shift word inside subject.now entries.now work.old most }
     ensures { Frees code.now push count shift word inside subject.now entries.now work.old work.new most result }
 {
-    let Found::Key(key) = find(code, push + 4, count, word - inside) else {
+    let Some(key) = find(code, push + 4, count, word - inside) else {
         return Some(Span {
             nodes: 1,
             depth: 1,

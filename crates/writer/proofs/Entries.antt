@@ -249,29 +249,29 @@ module _ {code subject entries work : List ℕ} (sc : Scene code subject entries
   root_read : get_or (drop 4096 work) (entry_place entries e / 2) 0 ≡ get_or work places 0
   root_read = get_or-drop 4096 work (entry_place entries e / 2) 0 ∙ ap (λ i. get_or work i 0) (sym d.places_are)
 
-  module _ {at k : ℕ} (at_is : at ≡ 2 * k) (few : k < size) where
+  module _ {k : ℕ} (few : k < size) where
     abbrev root_place : ℕ
     root_place = get_or work places 0
 
     abbrev here_place : ℕ
-    here_place = get_or work (places + at / 2) 0
+    here_place = get_or work (places + k) 0
 
-    word : get_or (drop (entry_place entries e) subject) (2 * k) 0 ≡ get_or part at 0
+    word : get_or (drop (entry_place entries e) subject) (2 * k) 0 ≡ get_or part (2 * k) 0
     word =
         sym (get_or-take (2 * size) (drop (entry_place entries e) subject) (2 * k) 0 (omega arith))
-        ∙ ap₂ (λ (l : List ℕ) i. get_or l i 0) (sym d.words) (sym at_is)
+        ∙ ap (λ (l : List ℕ). get_or l (2 * k) 0) (sym d.words)
 
-    word₂ : get_or (drop (entry_place entries e) subject) (2 * k + 1) 0 ≡ get_or part (at + 1) 0
+    word₂ : get_or (drop (entry_place entries e) subject) (2 * k + 1) 0 ≡ get_or part (2 * k + 1) 0
     word₂ =
         sym (get_or-take (2 * size) (drop (entry_place entries e) subject) (2 * k + 1) 0 (omega arith))
-        ∙ ap₂ (λ (l : List ℕ) i. get_or l (i + 1) 0) (sym d.words) (sym at_is)
+        ∙ ap (λ (l : List ℕ). get_or l (2 * k + 1) 0) (sym d.words)
 
     place_read : get_or (drop (entry_place entries e / 2) (drop 4096 work)) k 0 ≡ here_place
     place_read =
         let p = d.places_are in
         get_or-drop (entry_place entries e / 2) (drop 4096 work) k 0 ∙ get_or-drop 4096 work (entry_place entries e / 2 + k) 0 ∙ ap (λ i. get_or work i 0) (omega arith)
 
-    pub node_within : (at + 1 < length part) × (places + at / 2 < 8192)
+    pub node_within : (2 * k + 1 < length part) × (places + k < 8192)
     node_within = let n = parted_length in let p = parted_places in (omega arith, omega arith)
 
     pub place_below : Below root_place here_place
@@ -284,8 +284,8 @@ module _ {code subject entries work : List ℕ} (sc : Scene code subject entries
 
     -- no variable of the entry has a body deeper than the whole
     node_shallow : (level D : ℕ) (ks : List ℕ) (ps : Tree many) → level + depth_of (entry_at subject entries) (Pushed e D ks ps) ≤ 64
-        → level + cond (is_free (get_or part at 0) (inside_of root_place here_place))
-        (or_one (assoc (pairlists ks (depth_of (entry_at subject entries) ps)) (get_or part at 0 - inside_of root_place here_place))) 1 ≤ 64
+        → level + cond (is_free (get_or part (2 * k) 0) (inside_of root_place here_place))
+        (or_one (assoc (pairlists ks (depth_of (entry_at subject entries) ps)) (get_or part (2 * k) 0 - inside_of root_place here_place))) 1 ≤ 64
     node_shallow level D ks ps h =
         let f : ℕ → Option ℕ = assoc (pairlists ks (depth_of (entry_at subject entries) ps)) in
         let g : ℕ → ℕ → ℕ → ℕ = node_depth f (get_or (drop 4096 work) (entry_place entries e / 2) 0) in
@@ -293,12 +293,12 @@ module _ {code subject entries work : List ℕ} (sc : Scene code subject entries
         let hs : List ℕ = drop (entry_place entries e / 2) (drop 4096 work) in
         let i = total_greatest g size k ws hs long_words long_places few in
         let j = spread_depth_lem (entered sc e d.there) f in
-        let n : g (get_or ws (2 * k) 0) (get_or ws (2 * k + 1) 0) (get_or hs k 0) ≡ node_depth f root_place (get_or part at 0) 0 here_place = rw (root_read, word, place_read) in
+        let n : g (get_or ws (2 * k) 0) (get_or ws (2 * k + 1) 0) (get_or hs k 0) ≡ node_depth f root_place (get_or part (2 * k) 0) 0 here_place = rw (root_read, word, place_read) in
         omega (arith, h, i, j, n)
 
     module _ {words l level offset : ℕ} {nst : List ℕ} {z : ℕ} where
       pub part_split : Splits (PartAt code subject entries work words l level offset nst e z (suc k)) (PartAt code subject entries work words l level offset nst e z k)
-          (NodeAt code subject entries work words l level offset nst e z (get_or part at 0) (get_or part (at + 1) 0) (inside_of root_place here_place))
+          (NodeAt code subject entries work words l level offset nst e z (get_or part (2 * k) 0) (get_or part (2 * k + 1) 0) (inside_of root_place here_place))
       part_split = record {
         parts = λ ws p.
             let g : ℕ → ℕ → ℕ → List ℕ =
@@ -321,8 +321,8 @@ module _ {code subject entries work : List ℕ} (sc : Scene code subject entries
             );
       }
 
-      pub part_met : {ws : List ℕ} (j : ℕ) → PartAt code subject entries work words l level offset nst e z j ws → is_free (get_or part at 0) (inside_of root_place here_place) ≡ true
-          → Met code work z (get_or part at 0) (inside_of root_place here_place)
+      pub part_met : {ws : List ℕ} (j : ℕ) → PartAt code subject entries work words l level offset nst e z j ws → is_free (get_or part (2 * k) 0) (inside_of root_place here_place) ≡ true
+          → Met code work z (get_or part (2 * k) 0) (inside_of root_place here_place)
       part_met j p free = record {
         free = free;
         shallow = place_below.1;
@@ -331,7 +331,7 @@ module _ {code subject entries work : List ℕ} (sc : Scene code subject entries
             let g : ℕ → ℕ → ℕ → Bool =
             node_seen (λ y. seen_at work (key_place code (z + 4) (count p.bodies) y)) (get_or (drop 4096 work) (entry_place entries e / 2) 0)
             in
-            let h : g (get_or part at 0) (get_or part (at + 1) 0) here_place ≡ true =
+            let h : g (get_or part (2 * k) 0) (get_or part (2 * k + 1) 0) here_place ≡ true =
             ap₂ (λ w c. g w c here_place) (sym word) (sym word₂) ∙ ap (λ x. g (get_or (drop (entry_place entries e) subject) (2 * k) 0) (get_or (drop (entry_place entries e) subject) (2 * k + 1) 0) x) (sym place_read)
             ∙ total_each g size k _ _ long_words long_places few s.stands.3
             in

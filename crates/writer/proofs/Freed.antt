@@ -12,18 +12,18 @@ use borrow.Author.Tests.{eq-eqb}
 use Rattle.documents.specs.Lists.{assoc, pairlists}
 use Rattle.documents.specs.Terms.{one, many}
 use Rattle.documents.proofs.Lists.{never}
-use Rattle.instructions.specs.declared.body.Found.TheVariants.{Key, Missing}
+use Rattle.std.specs.Prelude.{Some, None}
 use Rattle.instructions.specs.Bodies.{body_end, Readable, key_place, found_at}
 use Rattle.trees.specs.Trees.{Tree, Leaf, More, count, or_one, depth_of, Writer, or_moved_words, words_of}
 use Rattle.links.specs.Nodewise.{seen_at}
 use Rattle.links.specs.Standing.{entry_at, Safe, root, held, Stands}
 use Rattle.writer.specs.Wanted.{TreeAt, FreeAt, Met}
 
-pub key_found : (o : Option ℕ) (key : ℕ) → found_at o ≡ Key key → o ≡ some key
+pub key_found : (o : Option ℕ) (key : ℕ) → found_at o ≡ Some key → o ≡ some key
 key_found none key e = never (cc)
 key_found (some q) key e = cc
 
-pub key_missing_lem : (o : Option ℕ) → found_at o ≡ Missing → o ≡ none
+pub key_missing_lem : (o : Option ℕ) → found_at o ≡ None → o ≡ none
 key_missing_lem none e = refl
 key_missing_lem (some q) e = never (cc)
 

@@ -3,7 +3,7 @@ use mathlib.Core.Path.{◌≡◌, sym, ◌∙◌}
 use Prim.Native.Nat.{ℕ, ◌+◌, ◌-◌, ◌≤◌}
 use native.Mathlib.Omega.{arith}
 use native.Mathlib.Decide.{ℕ_discrete}
-use mathlib.Core.Bool.{true, false}
+use mathlib.Core.Bool.{true}
 use mathlib.Core.List.{List}
 use lib.Dec.{eqb}
 use lib.ListN.{get_or}
@@ -24,10 +24,6 @@ module _ (code : List ℕ) (at : ℕ) (op : get_or code at 0 ≡ 8) where
   unfolding lambdas_around
   cell_around l = rw (eq-eqb (get_or code at 0) 8 op)
 
-  pub cell_constant : eqb (get_or code (at + 2) 0) 0 ≡ is_constant code at
-  unfolding is_constant
-  cell_constant = rw (eq-eqb (get_or code at 0) 8 op)
-
   pub cell_head : 65536 + get_or code (at + 1) 0 ≡ head_at code at
   unfolding head_at
   cell_head = rw (eq-eqb (get_or code at 0) 8 op)
@@ -44,10 +40,6 @@ module _ (code : List ℕ) (at : ℕ) (op : get_or code at 0 ≡ 8 → ⊥) wher
   pub block_around : (l : ℕ) → l - 1 ≡ lambdas_around code at l
   unfolding lambdas_around
   block_around l = rw (ne_eqb (get_or code at 0) 8 op)
-
-  pub block_constant : false ≡ is_constant code at
-  unfolding is_constant
-  block_constant = rw (ne_eqb (get_or code at 0) 8 op)
 
   pub block_head : 196608 ≡ head_at code at
   unfolding head_at

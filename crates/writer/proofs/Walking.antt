@@ -325,18 +325,16 @@ module _ {code subject entries work d e o p : List ℕ} {end to root at left lam
 
 -- ---- From node to node of an entry
 
--- of the entry of a PUSHI at `push`, the nodes before `at` of its part are to be written before `to`
-pub record Entering (code subject entries work part d e o p : List ℕ) (end to push places at offset l level words : ℕ) : Type 0 where
+-- of the entry of a PUSHI at `push`, the first `left` nodes are to be written before `to`
+pub record Entering (code subject entries work part d e o p : List ℕ) (end to push places left offset l level words : ℕ) : Type 0 where
   pub same_length : length e ≡ length d
   pub opened_long : length p ≡ length o
   pub same : Same l level o p
   pub lower : to ≤ end
   pub parted : Parted subject entries part places (get_or code (push + 1) 0)
-  pub k : ℕ
-  pub at_is : at ≡ 2 * k
-  pub few : k ≤ nodes (entry_at subject entries (get_or code (push + 1) 0))
-  pub room : Room (PartAt code subject entries work words l level offset (nstack offset l p) (get_or code (push + 1) 0) push k) to
-  pub rest : (f : List ℕ) (r : ℕ) → Writes (PartAt code subject entries work words l level offset (nstack offset l p) (get_or code (push + 1) 0) push k) e f r to
+  pub few : left ≤ nodes (entry_at subject entries (get_or code (push + 1) 0))
+  pub room : Room (PartAt code subject entries work words l level offset (nstack offset l p) (get_or code (push + 1) 0) push left) to
+  pub rest : (f : List ℕ) (r : ℕ) → Writes (PartAt code subject entries work words l level offset (nstack offset l p) (get_or code (push + 1) 0) push left) e f r to
       → Writes (TreeAt code subject entries work words l level offset (nstack offset l o) push) d f r end
 
 module _ {code subject entries work part d o : List ℕ} {end push places offset l level words : ℕ} (y : Ready code subject entries work d o end offset l words)
@@ -348,54 +346,49 @@ module _ {code subject entries work part d o : List ℕ} {end push places offset
   pub entry_root : places < 8192
   entry_root = parted_root y.scene entry_parted
 
-  pub entering_from : Entering code subject entries work part d d o o end end push places (length part) offset l level words
-  entering_from = record {
+  pub entering_from : Entering code subject entries work part d d o o end end push places (length part / 2) offset l level words
+  entering_from = rw half (record {
     same_length = refl;
     opened_long = refl;
     same = same_none;
     lower = omega arith;
     parted = entry_parted;
-    k = nodes (entry_at subject entries (get_or code (push + 1) 0));
-    at_is = parted_length y.scene entry_parted;
     few = omega arith;
     room = room_from (tree_part y.scene op) m;
     rest = λ e r w. writes_from (tree_part y.scene op) w;
-  }
+  })
+    where
+      half : length part / 2 ≡ nodes (entry_at subject entries (get_or code (push + 1) 0))
+      half = let n = parted_length y.scene entry_parted in omega arith
 
-module _ {code subject entries work part d e o p : List ℕ} {end to push places at offset l level words : ℕ}
-    (y : Ready code subject entries work d o end offset l words) (w : Entering code subject entries work part d e o p end to push places at offset l level words) where
-  pub entering_ended : at ≤ 0 → Writes (TreeAt code subject entries work words l level offset (nstack offset l o) push) d e to end
-  entering_ended h = let i = w.at_is in w.rest e to (writes_exactly (λ ws t. part_none ws w.k (omega arith) t) (wrote_none e to))
+module _ {code subject entries work part d e o p : List ℕ} {end to push places left offset l level words : ℕ}
+    (y : Ready code subject entries work d o end offset l words) (w : Entering code subject entries work part d e o p end to push places left offset l level words) where
+  pub entering_ended : left ≤ 0 → Writes (TreeAt code subject entries work words l level offset (nstack offset l o) push) d e to end
+  entering_ended h = w.rest e to (writes_exactly (λ ws t. part_none ws left (omega arith) t) (wrote_none e to))
 
   pub entering_ready : Ready code subject entries work e p to offset l words
   entering_ready = ready_on y w.same_length w.opened_long w.same.lambdas w.lower
 
-  module _ (h : 0 < at) where
+  module _ (h : 0 < left) where
     abbrev inside : ℕ
-    inside = inside_of (get_or work places 0) (get_or work (places + (at - 2) / 2) 0)
+    inside = inside_of (get_or work places 0) (get_or work (places + (left - 1)) 0)
 
-    before_is : at - 2 ≡ 2 * (w.k - 1)
-    before_is = let i = w.at_is in omega arith
+    fewer : left - 1 < nodes (entry_at subject entries (get_or code (push + 1) 0))
+    fewer = let j = w.few in omega arith
 
-    fewer : w.k - 1 < nodes (entry_at subject entries (get_or code (push + 1) 0))
-    fewer = let i = w.at_is in let j = w.few in omega arith
+    one_more : suc (left - 1) ≡ left
+    one_more = omega arith
 
-    one_more : suc (w.k - 1) ≡ w.k
-    one_more = let i = w.at_is in omega arith
+    pub entering_within : (2 * (left - 1) + 1 < length part) × (places + (left - 1) < 8192)
+    entering_within = node_within y.scene w.parted fewer
 
-    pub entering_two : 2 ≤ at
-    entering_two = let i = w.at_is in omega arith
+    pub entering_below : Below (get_or work places 0) (get_or work (places + (left - 1)) 0)
+    entering_below = place_below y.scene w.parted fewer
 
-    pub entering_within : (at - 2 + 1 < length part) × (places + (at - 2) / 2 < 8192)
-    entering_within = node_within y.scene w.parted before_is fewer
-
-    pub entering_below : Below (get_or work places 0) (get_or work (places + (at - 2) / 2) 0)
-    entering_below = place_below y.scene w.parted before_is fewer
-
-    entering_split : Splits (PartAt code subject entries work words l level offset (nstack offset l p) (get_or code (push + 1) 0) push w.k)
-        (PartAt code subject entries work words l level offset (nstack offset l p) (get_or code (push + 1) 0) push (w.k - 1))
-        (NodeAt code subject entries work words l level offset (nstack offset l p) (get_or code (push + 1) 0) push (get_or part (at - 2) 0) (get_or part (at - 2 + 1) 0) inside)
-    entering_split = ap_splits one_more (part_split y.scene w.parted before_is fewer)
+    entering_split : Splits (PartAt code subject entries work words l level offset (nstack offset l p) (get_or code (push + 1) 0) push left)
+        (PartAt code subject entries work words l level offset (nstack offset l p) (get_or code (push + 1) 0) push (left - 1))
+        (NodeAt code subject entries work words l level offset (nstack offset l p) (get_or code (push + 1) 0) push (get_or part (2 * (left - 1)) 0) (get_or part (2 * (left - 1) + 1) 0) inside)
+    entering_split = ap_splits one_more (part_split y.scene w.parted fewer)
       where
         ap_splits : {m k : ℕ} → m ≡ k → {Fore Rear : List ℕ → Type 0}
             → Splits (PartAt code subject entries work words l level offset (nstack offset l p) (get_or code (push + 1) 0) push m) Fore Rear
@@ -403,8 +396,8 @@ module _ {code subject entries work part d e o p : List ℕ} {end to push places
         ap_splits e s = rw e at s
 
     entering_node : {f q : List ℕ} {r : ℕ}
-        → Writes (NodeAt code subject entries work words l level offset (nstack offset l p) (get_or code (push + 1) 0) push (get_or part (at - 2) 0) (get_or part (at - 2 + 1) 0) inside) e f r to
-        → Same l level p q → length f ≡ length e → length q ≡ length p → Entering code subject entries work part d f o q end r push places (at - 2) offset l level words
+        → Writes (NodeAt code subject entries work words l level offset (nstack offset l p) (get_or code (push + 1) 0) push (get_or part (2 * (left - 1)) 0) (get_or part (2 * (left - 1) + 1) 0) inside) e f r to
+        → Same l level p q → length f ≡ length e → length q ≡ length p → Entering code subject entries work part d f o q end r push places (left - 1) offset l level words
     entering_node {f = f} {q = q} {r = r} v t n m =
         let s = nstack_same offset l p q t.lambdas in
         let i = w.lower in
@@ -416,27 +409,25 @@ module _ {code subject entries work part d e o p : List ℕ} {end to push places
           same = same_then w.same t;
           lower = omega arith;
           parted = w.parted;
-          k = w.k - 1;
-          at_is = before_is;
           few = omega arith;
           room = rw s (room_rest entering_split w.room v);
           rest = λ g c x. w.rest g c (writes_then entering_split v (rw s at x));
         }
 
     -- a variable that is free in the entry
-    module _ (free : is_free (get_or part (at - 2) 0) inside ≡ true) where
-      pub entering_met : Met code work push (get_or part (at - 2) 0) inside
-      entering_met = part_met y.scene w.parted before_is fewer w.k w.room.wanted free
+    module _ (free : is_free (get_or part (2 * (left - 1)) 0) inside ≡ true) where
+      pub entering_met : Met code work push (get_or part (2 * (left - 1)) 0) inside
+      entering_met = part_met y.scene w.parted fewer left w.room.wanted free
 
-      pub entering_room : Room (FreeAt code subject entries work words l level offset (nstack offset l p) push (get_or part (at - 2) 0) inside) to
+      pub entering_room : Room (FreeAt code subject entries work words l level offset (nstack offset l p) push (get_or part (2 * (left - 1)) 0) inside) to
       entering_room = room_from (λ ws t. node_free ws free t) (room_last entering_split w.room)
 
-      pub entering_free : {f q : List ℕ} {r : ℕ} → Writes (FreeAt code subject entries work words l level offset (nstack offset l p) push (get_or part (at - 2) 0) inside) e f r to
-          → Same l level p q → length f ≡ length e → length q ≡ length p → Entering code subject entries work part d f o q end r push places (at - 2) offset l level words
+      pub entering_free : {f q : List ℕ} {r : ℕ} → Writes (FreeAt code subject entries work words l level offset (nstack offset l p) push (get_or part (2 * (left - 1)) 0) inside) e f r to
+          → Same l level p q → length f ≡ length e → length q ≡ length p → Entering code subject entries work part d f o q end r push places (left - 1) offset l level words
       entering_free v = entering_node (writes_from (λ ws t. node_free ws free t) v)
 
     -- any other node
-    module _ (kept : is_free (get_or part (at - 2) 0) inside ≡ false) where
+    module _ (kept : is_free (get_or part (2 * (left - 1)) 0) inside ≡ false) where
       pub entering_fit : 2 ≤ to
       entering_fit =
           let r = room_last entering_split w.room in
@@ -444,6 +435,6 @@ module _ {code subject entries work part d e o p : List ℕ} {end to push places
           let n = ap length (node_kept r.words kept r.wanted) in
           omega arith
 
-      pub entering_kept : {f : List ℕ} {r : ℕ} → Wrote e f r to (get_or part (at - 2) 0 ∷ get_or part (at - 2 + 1) 0 ∷ []) → length f ≡ length e
-          → Entering code subject entries work part d f o p end r push places (at - 2) offset l level words
+      pub entering_kept : {f : List ℕ} {r : ℕ} → Wrote e f r to (get_or part (2 * (left - 1)) 0 ∷ get_or part (2 * (left - 1) + 1) 0 ∷ []) → length f ≡ length e
+          → Entering code subject entries work part d f o p end r push places (left - 1) offset l level words
       entering_kept v n = entering_node (writes_exactly (λ ws t. node_kept ws kept t) v) same_none n refl

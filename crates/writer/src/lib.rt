@@ -7,8 +7,8 @@ ghost use Rattle.writer.specs.Written.{Wrote, Writes, Room, Same, nstack};
 ghost use Rattle.writer.specs.Wanted.{Ready, arguments_at, lambdas_in, lambdas_around, is_constant, head_at, moves_nothing, TreeAt, EntryPart, FreeAt, Met};
 
 use documents::op::{CELL, PUSHIMM, PUSHVAR};
-use instructions::body::{Found, find};
-use links::link::{before, over};
+use instructions::body::find;
+use links::link::Link;
 use links::variable::{is_free, moved};
 use links::{LEVEL, NODES_AT};
 use tables::compare::D_SHIFT;
@@ -55,82 +55,74 @@ pub fn write(
             kept -= 1;
             let node = (opened[ABOVE_AT + kept] / TREES) as usize;
             left = opened[ABOVE_AT + kept] % TREES;
-            at = before(work[node]);
+            at = Link(work[node]).before();
             to = put(res, to, head(code, node), arguments(code, node));
             lambdas = outer(code, node, lambdas);
-            continue;
-        }
-        if code[at] < PUSHVAR {
+        } else if code[at] < PUSHVAR {
             opened[ABOVE_AT + kept] = at as u32 * TREES + (left - 1);
             kept += 1;
             opened[lambdas] = offset;
             lambdas = inner(code, at, lambdas);
             left = arguments(code, at);
-            at = over(work[at]);
-            continue;
+            at = Link(work[at]).over();
+        } else {
+            let here = at;
+            at = Link(work[here]).before();
+            left -= 1;
+            to = write_leaf(
+                code, subject, entries, work, res, opened, here, to, offset, lambdas, kept, words,
+            );
         }
-        let here = at;
-        at = before(work[here]);
-        left -= 1;
-        to = write_leaf(
-            code, subject, entries, work, res, opened, here, to, offset, lambdas, kept, words,
-        );
     }
 }
 
 // How many terms a CELL or ADBMAL takes.
+#[tactic(auto, unfolding(crate::specs::Wanted::arguments_at))]
 fn arguments(code: &[u32], at: usize) -> u32
     requires { (at < length code.now) × (get_or code.now at 0 ≡ op_cell → at + 2 < length code.now) }
     ensures { result ≡ arguments_at code.now at }
 {
-    if code[at] == CELL {
-        return code[at + 2];
-    }
-    1
+    if code[at] == CELL { code[at + 2] } else { 1 }
 }
 
 // How many LAMBDAs are open in these.
+#[tactic(auto, unfolding(crate::specs::Wanted::lambdas_in))]
 fn inner(code: &[u32], at: usize, l: usize) -> usize
     requires { (at < length code.now) × (l < 64) }
     ensures { result ≡ lambdas_in code.now at l }
 {
-    if code[at] == CELL {
-        return l;
-    }
-    l + 1
+    if code[at] == CELL { l } else { l + 1 }
 }
 
 // How many LAMBDAs are open around it, if so many are in what it took.
+#[tactic(auto, unfolding(crate::specs::Wanted::lambdas_around))]
 fn outer(code: &[u32], at: usize, l: usize) -> usize
     requires { (at < length code.now) × ((get_or code.now at 0 ≡ op_cell → ⊥) → 1 ≤ l) }
     ensures { result ≡ lambdas_around code.now at l }
 {
-    if code[at] == CELL {
-        return l;
-    }
-    l - 1
+    if code[at] == CELL { l } else { l - 1 }
 }
 
 // Whether it is a symbol without arguments.
+#[tactic(auto, unfolding(crate::specs::Wanted::is_constant))]
 fn is_constant(code: &[u32], at: usize) -> bool
     requires { (at < length code.now) × (get_or code.now at 0 ≡ op_cell → at + 2 < length code.now) }
     ensures { result ≡ is_constant code.now at }
 {
-    if code[at] != CELL {
-        return false;
-    }
-    code[at + 2] == 0
+    code[at] == CELL && code[at + 2] == 0
 }
 
 // The word of its node.
+#[tactic(auto, unfolding(crate::specs::Wanted::head_at))]
 fn head(code: &[u32], at: usize) -> u32
     requires { (at < length code.now) × (get_or code.now at 0 ≡ op_cell → (at + 1 < length code.now) × (get_or code.now (at + 1) 0 < 65536)) }
     ensures { result ≡ head_at code.now at }
 {
     if code[at] == CELL {
-        return FIRST_SYMBOL + code[at + 1];
+        FIRST_SYMBOL + code[at + 1]
+    } else {
+        ABSTRACTION
     }
-    ABSTRACTION
 }
 
 // A node's two words.
@@ -198,17 +190,12 @@ fn bound(operand: u32, opened: &[u32], offset: u32, l: usize) -> u32
 }
 
 // A PUSHIMM, or a PUSHI without bodies under which no index changes.
+#[tactic(auto, unfolding(crate::specs::Wanted::moves_nothing))]
 fn moves_nothing(code: &[u32], at: usize, offset: u32) -> bool
     requires { (at < length code.now) × ((get_or code.now at 0 ≡ op_pushimm → ⊥) → (at + 3 < length code.now) × (get_or code.now (at + 2) 0 ≤ 127)) × (offset ≤ 1048576) }
     ensures { result ≡ moves_nothing code.now at offset }
 {
-    if code[at] == PUSHIMM {
-        return true;
-    }
-    if code[at + 3] != 0 {
-        return false;
-    }
-    code[at + 2] + offset == D_SHIFT
+    code[at] == PUSHIMM || code[at + 3] == 0 && code[at + 2] + offset == D_SHIFT
 }
 
 // Words as they are.
@@ -217,11 +204,7 @@ fn copy(part: &[u32], res: &mut [u32], end: usize) -> usize
     ensures { Wrote res.old res.new result end part.now }
 {
     let to = end - part.len();
-    let mut i: usize = 0;
-    while i < part.len() {
-        res[to + i] = part[i];
-        i += 1;
-    }
+    res[to..end].copy_from_slice(part);
     to
 }
 
@@ -247,20 +230,18 @@ fn write_entry(
     ensures { Writes (TreeAt code.now subject.now entries.now work.now words l level offset (nstack offset l opened.old) push) res.old res.new result end × Same l level opened.old opened.new }
 {
     let root = work[places];
-    let mut at = part.len();
     let mut to = end;
-    while 0 < at {
-        at -= 2;
-        let word = part[at];
-        let inside = (work[places + at / 2] - root) % LEVEL;
-        if is_free(word, inside) {
-            to = write_free(
+    for node in (0..part.len() / 2).rev() {
+        let word = part[2 * node];
+        let inside = (work[places + node] - root) % LEVEL;
+        to = if is_free(word, inside) {
+            write_free(
                 code, push, word, inside, subject, entries, work, res, opened, to, offset, l,
                 level, words,
-            );
+            )
         } else {
-            to = put(res, to, word, part[at + 1]);
-        }
+            put(res, to, word, part[2 * node + 1])
+        };
     }
     to
 }
@@ -287,7 +268,7 @@ fn write_free(
     requires { Ready code.now subject.now entries.now work.now res.old opened.old end offset l words × Room (FreeAt code.now subject.now entries.now work.now words l level offset (nstack offset l opened.old) push word inside) end × Met code.now work.now push word inside }
     ensures { Writes (FreeAt code.now subject.now entries.now work.now words l level offset (nstack offset l opened.old) push word inside) res.old res.new result end × Same l level opened.old opened.new }
 {
-    let Found::Key(key) = find(code, push + 4, code[push + 3], word - inside) else {
+    let Some(key) = find(code, push + 4, code[push + 3], word - inside) else {
         return put(res, end, moved(word, code[push + 2] + offset), 0);
     };
     let root = work[key] as usize;

@@ -26,97 +26,97 @@ pub free-returns-in_default : goal.free-returns-in_default
 free-returns-in_default t c = meets_none c.requires (sym c.in_default.is ∙ c.find.ensures) (let m = c.moved.ensures in omega arith)
 
 pub free-offset_bounds-work-key : goal.free-offset_bounds-work-key
-free-offset_bounds-work-key t c = let b = key_long c.requires (sym c.in-Key.is ∙ c.find.ensures) in search rules
+free-offset_bounds-work-key t c = let b = key_long c.requires (sym c.in-Some.is ∙ c.find.ensures) in search rules
 
 pub free-bounds-work-key : goal.free-bounds-work-key
-free-bounds-work-key t c = let b = key_long c.requires (sym c.in-Key.is ∙ c.find.ensures) in omega arith
+free-bounds-work-key t c = let b = key_long c.requires (sym c.in-Some.is ∙ c.find.ensures) in omega arith
 
 pub free-overflow_add-from : goal.free-overflow_add-from
-free-overflow_add-from t c = let b = key_in c.requires (sym c.in-Key.is ∙ c.find.ensures) in let s = c.requires.scene.code_short in search rules
+free-overflow_add-from t c = let b = key_in c.requires (sym c.in-Some.is ∙ c.find.ensures) in let s = c.requires.scene.code_short in search rules
 
 pub free-overflow_add-end : goal.free-overflow_add-end
-free-overflow_add-end t c = let b = key_in c.requires (sym c.in-Key.is ∙ c.find.ensures) in let s = c.requires.scene.code_short in search rules
+free-overflow_add-end t c = let b = key_in c.requires (sym c.in-Some.is ∙ c.find.ensures) in let s = c.requires.scene.code_short in search rules
 
 pub free-offset_bounds-code-key : goal.free-offset_bounds-code-key
-free-offset_bounds-code-key t c = let b = key_in c.requires (sym c.in-Key.is ∙ c.find.ensures) in let s = c.requires.scene.code_short in search rules
+free-offset_bounds-code-key t c = let b = key_in c.requires (sym c.in-Some.is ∙ c.find.ensures) in let s = c.requires.scene.code_short in search rules
 
 pub free-bounds-code-key : goal.free-bounds-code-key
-free-bounds-code-key t c = let b = key_in c.requires (sym c.in-Key.is ∙ c.find.ensures) in omega arith
+free-bounds-code-key t c = let b = key_in c.requires (sym c.in-Some.is ∙ c.find.ensures) in omega arith
 
 pub free-overflow_cast-end : goal.free-overflow_cast-end
-free-overflow_cast-end t c = let b = key_in c.requires (sym c.in-Key.is ∙ c.find.ensures) in let s = c.requires.scene.code_short in search rules
+free-overflow_cast-end t c = let b = key_in c.requires (sym c.in-Some.is ∙ c.find.ensures) in let s = c.requires.scene.code_short in search rules
 
 pub free-overflow_add-end-then-work-key-eq0 : goal.free-overflow_add-end-then-work-key-eq0
-free-overflow_add-end-then-work-key-eq0 t c = let b = key_in c.requires (sym c.in-Key.is ∙ c.find.ensures) in let s = c.requires.scene.code_short in search rules
+free-overflow_add-end-then-work-key-eq0 t c = let b = key_in c.requires (sym c.in-Some.is ∙ c.find.ensures) in let s = c.requires.scene.code_short in search rules
 
 pub free-measure-requires : goal.free-measure-requires
-free-measure-requires t c = let K = sym c.in-Key.is ∙ c.find.ensures in ((let m = c.decreases in let e = body_end_lem c.requires K in let l = body_low c.requires K in omega arith), body_sequence c.requires K)
+free-measure-requires t c = let K = sym c.in-Some.is ∙ c.find.ensures in ((let m = c.decreases in let e = body_end_lem c.requires K in let l = body_low c.requires K in omega arith), body_sequence c.requires K)
 
 pub free-returns-in_err-nodes : goal.free-returns-in_err-nodes
-free-returns-in_err-nodes t c = rw c.from_residual.ensures (meets_too_large c.requires (sym c.in-Key.is ∙ c.find.ensures) c.measure.ensures.kept (measures_large c.measure.ensures c.in_err-nodes.was))
+free-returns-in_err-nodes t c = rw c.from_residual.ensures (meets_too_large c.requires (sym c.in-Some.is ∙ c.find.ensures) c.measure.ensures.kept (measures_large c.measure.ensures c.in_err-nodes.was))
 
 pub free-overflow_cast-work : goal.free-overflow_cast-work
-free-overflow_cast-work t c = let z = root_small c.requires (sym c.in-Key.is ∙ c.find.ensures) c.measure.ensures.kept (measures_of c.measure.ensures c.in_ok-nodes.was) in search rules
+free-overflow_cast-work t c = let z = root_small c.requires (sym c.in-Some.is ∙ c.find.ensures) c.measure.ensures.kept (measures_of c.measure.ensures c.in_ok-nodes.was) in search rules
 
 pub free-offset_bounds-work-key-then-work-key-eq0 : goal.free-offset_bounds-work-key-then-work-key-eq0
-free-offset_bounds-work-key-then-work-key-eq0 t c = let b = key_long c.requires (sym c.in-Key.is ∙ c.find.ensures) in search rules
+free-offset_bounds-work-key-then-work-key-eq0 t c = let b = key_long c.requires (sym c.in-Some.is ∙ c.find.ensures) in search rules
 
 pub free-bounds-work-key-then-work-key-eq0 : goal.free-bounds-work-key-then-work-key-eq0
-free-bounds-work-key-then-work-key-eq0 t c = let b = key_long c.requires (sym c.in-Key.is ∙ c.find.ensures) in let l = c.measure.ensures.kept.long in omega arith
+free-bounds-work-key-then-work-key-eq0 t c = let b = key_long c.requires (sym c.in-Some.is ∙ c.find.ensures) in let l = c.measure.ensures.kept.long in omega arith
 
 pub free-new-requires : goal.free-new-requires
-free-new-requires t c = let K = sym c.in-Key.is ∙ c.find.ensures in let m = measures_of c.measure.ensures c.in_ok-nodes.was in ((let a = m.fits in let f = c.requires.few in omega arith), small_reach c.requires K _ m.close)
+free-new-requires t c = let K = sym c.in-Some.is ∙ c.find.ensures in let m = measures_of c.measure.ensures c.in_ok-nodes.was in ((let a = m.fits in let f = c.requires.few in omega arith), small_reach c.requires K _ m.close)
 
 pub free-overflow_add-work : goal.free-overflow_add-work
-free-overflow_add-work t c = let b = key_in c.requires (sym c.in-Key.is ∙ c.find.ensures) in let s = c.requires.scene.code_short in search rules
+free-overflow_add-work t c = let b = key_in c.requires (sym c.in-Some.is ∙ c.find.ensures) in let s = c.requires.scene.code_short in search rules
 
 pub free-offset_bounds-work-key-then-work-key-eq0-2 : goal.free-offset_bounds-work-key-then-work-key-eq0-2
-free-offset_bounds-work-key-then-work-key-eq0-2 t c = let b = key_in c.requires (sym c.in-Key.is ∙ c.find.ensures) in let s = c.requires.scene.code_short in search rules
+free-offset_bounds-work-key-then-work-key-eq0-2 t c = let b = key_in c.requires (sym c.in-Some.is ∙ c.find.ensures) in let s = c.requires.scene.code_short in search rules
 
 pub free-bounds-work-key-then-work-key-eq0-2 : goal.free-bounds-work-key-then-work-key-eq0-2
-free-bounds-work-key-then-work-key-eq0-2 t c = note_room c.requires (sym c.in-Key.is ∙ c.find.ensures) c.measure.ensures.kept (measures_of c.measure.ensures c.in_ok-nodes.was) 0
+free-bounds-work-key-then-work-key-eq0-2 t c = note_room c.requires (sym c.in-Some.is ∙ c.find.ensures) c.measure.ensures.kept (measures_of c.measure.ensures c.in_ok-nodes.was) 0
 
 pub free-offset_bounds-work-root : goal.free-offset_bounds-work-root
-free-offset_bounds-work-root t c = let z = root_small c.requires (sym c.in-Key.is ∙ c.find.ensures) c.measure.ensures.kept (measures_of c.measure.ensures c.in_ok-nodes.was) in search rules
+free-offset_bounds-work-root t c = let z = root_small c.requires (sym c.in-Some.is ∙ c.find.ensures) c.measure.ensures.kept (measures_of c.measure.ensures c.in_ok-nodes.was) in search rules
 
 pub free-bounds-work-root : goal.free-bounds-work-root
-free-bounds-work-root t c = depth_room c.requires (sym c.in-Key.is ∙ c.find.ensures) c.measure.ensures.kept (measures_of c.measure.ensures c.in_ok-nodes.was) _
+free-bounds-work-root t c = depth_room c.requires (sym c.in-Some.is ∙ c.find.ensures) c.measure.ensures.kept (measures_of c.measure.ensures c.in_ok-nodes.was) _
 
 pub free-shifted-requires : goal.free-shifted-requires
-free-shifted-requires t c = let K = sym c.in-Key.is ∙ c.find.ensures in let m = measures_of c.measure.ensures c.in_ok-nodes.was in (small_reach c.requires K _ m.close, (let s = c.requires.shallow in omega arith))
+free-shifted-requires t c = let K = sym c.in-Some.is ∙ c.find.ensures in let m = measures_of c.measure.ensures c.in_ok-nodes.was in (small_reach c.requires K _ m.close, (let s = c.requires.shallow in omega arith))
 
 pub free-returns-then-work-key-eq0 : goal.free-returns-then-work-key-eq0
-free-returns-then-work-key-eq0 t c = meets_now c.requires (sym c.in-Key.is ∙ c.find.ensures) c.measure.ensures.kept (measures_of c.measure.ensures c.in_ok-nodes.was) _ c.if-work-key-eq0.true c.new.ensures c.depth.ensures.0 c.shifted.ensures
+free-returns-then-work-key-eq0 t c = meets_now c.requires (sym c.in-Some.is ∙ c.find.ensures) c.measure.ensures.kept (measures_of c.measure.ensures c.in_ok-nodes.was) _ c.if-work-key-eq0.true c.new.ensures c.depth.ensures.0 c.shifted.ensures
 
 pub free-overflow_add-note : goal.free-overflow_add-note
-free-overflow_add-note t c = let b = key_long c.requires (sym c.in-Key.is ∙ c.find.ensures) in search rules
+free-overflow_add-note t c = let b = key_long c.requires (sym c.in-Some.is ∙ c.find.ensures) in search rules
 
 pub free-offset_bounds-work-key-2 : goal.free-offset_bounds-work-key-2
-free-offset_bounds-work-key-2 t c = let b = key_long c.requires (sym c.in-Key.is ∙ c.find.ensures) in search rules
+free-offset_bounds-work-key-2 t c = let b = key_long c.requires (sym c.in-Some.is ∙ c.find.ensures) in search rules
 
 pub free-bounds-work-key-2 : goal.free-bounds-work-key-2
-free-bounds-work-key-2 t c = let b = key_long c.requires (sym c.in-Key.is ∙ c.find.ensures) in omega arith
+free-bounds-work-key-2 t c = let b = key_long c.requires (sym c.in-Some.is ∙ c.find.ensures) in omega arith
 
 pub free-offset_bounds-work-key-3 : goal.free-offset_bounds-work-key-3
-free-offset_bounds-work-key-3 t c = let b = key_long c.requires (sym c.in-Key.is ∙ c.find.ensures) in search rules
+free-offset_bounds-work-key-3 t c = let b = key_long c.requires (sym c.in-Some.is ∙ c.find.ensures) in search rules
 
 pub free-bounds-work-key-3 : goal.free-bounds-work-key-3
-free-bounds-work-key-3 t c = let b = key_long c.requires (sym c.in-Key.is ∙ c.find.ensures) in omega arith
+free-bounds-work-key-3 t c = let b = key_long c.requires (sym c.in-Some.is ∙ c.find.ensures) in omega arith
 
 pub free-overflow_cast-root : goal.free-overflow_cast-root
-free-overflow_cast-root t c = let K = sym c.in-Key.is ∙ c.find.ensures in let r = noted_root c.requires K (noted c.requires K c.if-work-key-eq0.false) in let b = key_long c.requires K in search rules
+free-overflow_cast-root t c = let K = sym c.in-Some.is ∙ c.find.ensures in let r = noted_root c.requires K (noted c.requires K c.if-work-key-eq0.false) in let b = key_long c.requires K in search rules
 
 pub free-offset_bounds-work-root-2 : goal.free-offset_bounds-work-root-2
-free-offset_bounds-work-root-2 t c = let K = sym c.in-Key.is ∙ c.find.ensures in let r = noted_root c.requires K (noted c.requires K c.if-work-key-eq0.false) in let b = key_long c.requires K in search rules
+free-offset_bounds-work-root-2 t c = let K = sym c.in-Some.is ∙ c.find.ensures in let r = noted_root c.requires K (noted c.requires K c.if-work-key-eq0.false) in let b = key_long c.requires K in search rules
 
 pub free-bounds-work-root-2 : goal.free-bounds-work-root-2
-free-bounds-work-root-2 t c = let K = sym c.in-Key.is ∙ c.find.ensures in let r = noted_root c.requires K (noted c.requires K c.if-work-key-eq0.false) in let b = key_long c.requires K in omega arith
+free-bounds-work-root-2 t c = let K = sym c.in-Some.is ∙ c.find.ensures in let r = noted_root c.requires K (noted c.requires K c.if-work-key-eq0.false) in let b = key_long c.requires K in omega arith
 
 pub free-shifted-requires-2 : goal.free-shifted-requires-2
-free-shifted-requires-2 t c = let K = sym c.in-Key.is ∙ c.find.ensures in (rw c.reach.ensures (noted_small c.requires K (noted c.requires K c.if-work-key-eq0.false)), (let s = c.requires.shallow in omega arith))
+free-shifted-requires-2 t c = let K = sym c.in-Some.is ∙ c.find.ensures in (rw c.reach.ensures (noted_small c.requires K (noted c.requires K c.if-work-key-eq0.false)), (let s = c.requires.shallow in omega arith))
 
 pub free-returns : goal.free-returns
-free-returns t c = meets_before c.requires (sym c.in-Key.is ∙ c.find.ensures) c.if-work-key-eq0.false c.nodes.ensures c.depth-2.ensures.0 (c.shifted-2.ensures ∙ ap (λ (x : ℕ). further c.args.inside x) c.reach.ensures)
+free-returns t c = meets_before c.requires (sym c.in-Some.is ∙ c.find.ensures) c.if-work-key-eq0.false c.nodes.ensures c.depth-2.ensures.0 (c.shifted-2.ensures ∙ ap (λ (x : ℕ). further c.args.inside x) c.reach.ensures)
 
 pub measure-loop-at-init : goal.measure-loop-at-init
 measure-loop-at-init t c = growing_from _ _ _ _ _ _ _ c.requires

@@ -11,7 +11,7 @@ use Rattle.writer.proofs.Opened.{same_none}
 use Rattle.writer.proofs.Rooting.{leaf_within, tree_root, tree_cell, tree_bound}
 use Rattle.writer.proofs.Entries.{named_part, tree_named, tree_pushed, copied_words}
 use Rattle.writer.proofs.Freed.{key_found, key_missing_lem, free_readable, free_moved, free_falls}
-use Rattle.writer.proofs.Walking.{ready_bound, constant_fits, constant_written, bound_fits, bound_written, body_tree, body_ready, writing_from, writing_ended, writing_at, leaf_room, leaf_below, writing_leaf, node_cell, opened_high, opened_few, writing_opened, closed_kept, closed_within, closed_cell, closed_some, closed_fit, writing_closed, entry_root, entering_from, entering_ended, entering_ready, entering_two, entering_within, entering_below, entering_met, entering_room, entering_free, entering_fit, entering_kept}
+use Rattle.writer.proofs.Walking.{ready_bound, constant_fits, constant_written, bound_fits, bound_written, body_tree, body_ready, writing_from, writing_ended, writing_at, leaf_room, leaf_below, writing_leaf, node_cell, opened_high, opened_few, writing_opened, closed_kept, closed_within, closed_cell, closed_some, closed_fit, writing_closed, entry_root, entering_from, entering_ended, entering_ready, entering_below, entering_met, entering_room, entering_free, entering_fit, entering_kept}
 use Rattle.writer.proofs.+write_write_entry_write_free_write_leaf.Goals as goal
 
 pub write-loop-left-init : goal.write-loop-left-init
@@ -141,7 +141,7 @@ pub write-loop-left-smaller : goal.write-loop-left-smaller
 write-loop-left-smaller t c = let b = leaf_below c.loop-left.invariant (omega arith) c.write_leaf-to.ensures.0 in search rules
 
 pub write-loop-left-preserved : goal.write-loop-left-preserved
-write-loop-left-preserved t c = writing_leaf c.loop-left.invariant (omega arith) c.write_leaf-to.ensures.0 c.write_leaf-to.ensures.1 c.write_leaf-to.auto.res c.write_leaf-to.auto.opened c.before-at-in-loop-left.ensures
+write-loop-left-preserved t c = writing_leaf c.loop-left.invariant (omega arith) c.write_leaf-to.ensures.0 c.write_leaf-to.ensures.1 c.write_leaf-to.auto.res c.write_leaf-to.auto.opened c.before-at-else-code-at-lt-PUSHVAR.ensures
 
 pub write_entry-offset_bounds-work-places : goal.write_entry-offset_bounds-work-places
 write_entry-offset_bounds-work-places t c = let v = entry_root c.requires.0 c.requires.1 c.requires.2 c.requires.3 in let m = c.requires.0.scene.work_long in search rules
@@ -149,65 +149,32 @@ write_entry-offset_bounds-work-places t c = let v = entry_root c.requires.0 c.re
 pub write_entry-bounds-work-places : goal.write_entry-bounds-work-places
 write_entry-bounds-work-places t c = let v = entry_root c.requires.0 c.requires.1 c.requires.2 c.requires.3 in let m = c.requires.0.scene.work_long in search rules
 
-pub write_entry-loop-at-init : goal.write_entry-loop-at-init
-write_entry-loop-at-init t c = entering_from c.requires.0 c.requires.1 c.requires.2 c.requires.3
-
-pub write_entry-overflow_sub-at : goal.write_entry-overflow_sub-at
-write_entry-overflow_sub-at t c = let b = entering_two c.requires.0 c.loop-at.invariant (omega arith) in search rules
-
-pub write_entry-offset_bounds-part-at : goal.write_entry-offset_bounds-part-at
-write_entry-offset_bounds-part-at t c = let b = entering_two c.requires.0 c.loop-at.invariant (omega arith) in let v = entering_within c.requires.0 c.loop-at.invariant (omega arith) in let m = c.requires.0.scene.work_long in search rules
-
-pub write_entry-bounds-part-at : goal.write_entry-bounds-part-at
-write_entry-bounds-part-at t c = let b = entering_two c.requires.0 c.loop-at.invariant (omega arith) in let v = entering_within c.requires.0 c.loop-at.invariant (omega arith) in let m = c.requires.0.scene.work_long in search rules
-
-pub write_entry-overflow_add-inside : goal.write_entry-overflow_add-inside
-write_entry-overflow_add-inside t c = let b = entering_two c.requires.0 c.loop-at.invariant (omega arith) in let v = entering_within c.requires.0 c.loop-at.invariant (omega arith) in let m = c.requires.0.scene.work_long in search rules
-
-pub write_entry-offset_bounds-work-places-in-loop-at : goal.write_entry-offset_bounds-work-places-in-loop-at
-write_entry-offset_bounds-work-places-in-loop-at t c = let b = entering_two c.requires.0 c.loop-at.invariant (omega arith) in let v = entering_within c.requires.0 c.loop-at.invariant (omega arith) in let m = c.requires.0.scene.work_long in search rules
-
-pub write_entry-bounds-work-places-in-loop-at : goal.write_entry-bounds-work-places-in-loop-at
-write_entry-bounds-work-places-in-loop-at t c = let b = entering_two c.requires.0 c.loop-at.invariant (omega arith) in let v = entering_within c.requires.0 c.loop-at.invariant (omega arith) in let m = c.requires.0.scene.work_long in search rules
+pub write_entry-loop-node-init : goal.write_entry-loop-node-init
+write_entry-loop-node-init t c = entering_from c.requires.0 c.requires.1 c.requires.2 c.requires.3
 
 pub write_entry-overflow_sub-inside : goal.write_entry-overflow_sub-inside
-write_entry-overflow_sub-inside t c = let p = (entering_below c.requires.0 c.loop-at.invariant (omega arith)).0 in search rules
+write_entry-overflow_sub-inside t c = let p = (entering_below c.requires.0 c.loop-node.invariant (omega arith)).0 in search rules
 
 pub write_entry-write_free-to-requires : goal.write_entry-write_free-to-requires
-write_entry-write_free-to-requires t c = (omega (arith, c.decreases), (entering_ready c.requires.0 c.loop-at.invariant, entering_room c.requires.0 c.loop-at.invariant (omega arith) (sym c.is_free.ensures ∙ c.if-is_free.true), entering_met c.requires.0 c.loop-at.invariant (omega arith) (sym c.is_free.ensures ∙ c.if-is_free.true)))
-
-pub write_entry-loop-at-smaller-then-is_free : goal.write_entry-loop-at-smaller-then-is_free
-write_entry-loop-at-smaller-then-is_free t c = let b = entering_two c.requires.0 c.loop-at.invariant (omega arith) in search rules
-
-pub write_entry-loop-at-preserved-then-is_free : goal.write_entry-loop-at-preserved-then-is_free
-write_entry-loop-at-preserved-then-is_free t c = entering_free c.requires.0 c.loop-at.invariant (omega arith) (sym c.is_free.ensures ∙ c.if-is_free.true) c.write_free-to.ensures.0 c.write_free-to.ensures.1 c.write_free-to.auto.res c.write_free-to.auto.opened
-
-pub write_entry-overflow_add-at : goal.write_entry-overflow_add-at
-write_entry-overflow_add-at t c = let b = entering_two c.requires.0 c.loop-at.invariant (omega arith) in let v = entering_within c.requires.0 c.loop-at.invariant (omega arith) in let m = c.requires.0.scene.work_long in search rules
-
-pub write_entry-offset_bounds-part-at-else-is_free : goal.write_entry-offset_bounds-part-at-else-is_free
-write_entry-offset_bounds-part-at-else-is_free t c = let b = entering_two c.requires.0 c.loop-at.invariant (omega arith) in let v = entering_within c.requires.0 c.loop-at.invariant (omega arith) in let m = c.requires.0.scene.work_long in search rules
-
-pub write_entry-bounds-part-at-else-is_free : goal.write_entry-bounds-part-at-else-is_free
-write_entry-bounds-part-at-else-is_free t c = let b = entering_two c.requires.0 c.loop-at.invariant (omega arith) in let v = entering_within c.requires.0 c.loop-at.invariant (omega arith) in let m = c.requires.0.scene.work_long in search rules
+write_entry-write_free-to-requires t c = (omega (arith, c.decreases), (entering_ready c.requires.0 c.loop-node.invariant, entering_room c.requires.0 c.loop-node.invariant (omega arith) (sym c.is_free.ensures ∙ c.if-is_free.true), entering_met c.requires.0 c.loop-node.invariant (omega arith) (sym c.is_free.ensures ∙ c.if-is_free.true)))
 
 pub write_entry-put-to-requires : goal.write_entry-put-to-requires
-write_entry-put-to-requires t c = (entering_fit c.requires.0 c.loop-at.invariant (omega arith) (sym c.is_free.ensures ∙ c.if-is_free.false), (entering_ready c.requires.0 c.loop-at.invariant).inside)
+write_entry-put-to-requires t c = (entering_fit c.requires.0 c.loop-node.invariant (omega arith) (sym c.is_free.ensures ∙ c.if-is_free.false), (entering_ready c.requires.0 c.loop-node.invariant).inside)
 
-pub write_entry-loop-at-smaller : goal.write_entry-loop-at-smaller
-write_entry-loop-at-smaller t c = let b = entering_two c.requires.0 c.loop-at.invariant (omega arith) in search rules
+pub write_entry-loop-node-preserved-then-is_free : goal.write_entry-loop-node-preserved-then-is_free
+write_entry-loop-node-preserved-then-is_free t c = entering_free c.requires.0 c.loop-node.invariant (omega arith) (sym c.is_free.ensures ∙ c.if-is_free.true) c.write_free-to.ensures.0 c.write_free-to.ensures.1 c.write_free-to.auto.res c.write_free-to.auto.opened
 
-pub write_entry-loop-at-preserved : goal.write_entry-loop-at-preserved
-write_entry-loop-at-preserved t c = entering_kept c.requires.0 c.loop-at.invariant (omega arith) (sym c.is_free.ensures ∙ c.if-is_free.false) c.put-to.ensures c.put-to.auto.res
+pub write_entry-loop-node-preserved : goal.write_entry-loop-node-preserved
+write_entry-loop-node-preserved t c = entering_kept c.requires.0 c.loop-node.invariant (omega arith) (sym c.is_free.ensures ∙ c.if-is_free.false) c.put-to.ensures c.put-to.auto.res
 
 pub write_entry-shape_of-res : goal.write_entry-shape_of-res
-write_entry-shape_of-res t c = c.loop-at.invariant.same_length
+write_entry-shape_of-res t c = c.loop-node.invariant.same_length
 
 pub write_entry-shape_of-opened : goal.write_entry-shape_of-opened
-write_entry-shape_of-opened t c = c.loop-at.invariant.opened_long
+write_entry-shape_of-opened t c = c.loop-node.invariant.opened_long
 
 pub write_entry-returns : goal.write_entry-returns
-write_entry-returns t c = (entering_ended c.requires.0 c.loop-at.invariant (omega arith), c.loop-at.invariant.same)
+write_entry-returns t c = (entering_ended c.requires.0 c.loop-node.invariant (omega arith), c.loop-node.invariant.same)
 
 pub write_free-overflow_add-push : goal.write_free-overflow_add-push
 write_free-overflow_add-push t c = let r = free_readable c.requires.1.wanted in let s = c.requires.0.scene.code_short in let f = free_low _ _ c.requires.2.free in let q = c.requires.0.small in let h = r.within in let d = r.shift in search rules
@@ -252,76 +219,76 @@ pub write_free-returns-in_default : goal.write_free-returns-in_default
 write_free-returns-in_default t c = (writes_exactly (λ ws x. free_moved (key_missing_lem _ (sym c.find.ensures ∙ c.in_default.is)) ws x ∙ ap (λ y. y ∷ 0 ∷ []) (sym c.moved.ensures)) c.put.ensures, same_none)
 
 pub write_free-offset_bounds-work-key : goal.write_free-offset_bounds-work-key
-write_free-offset_bounds-work-key t c = let v = free_falls c.requires.2 _ (key_found _ _ (sym c.find.ensures ∙ c.in-Key.is)) c.requires.1.wanted in let s = c.requires.0.scene.code_short in let m = c.requires.0.scene.work_long in search rules
+write_free-offset_bounds-work-key t c = let v = free_falls c.requires.2 _ (key_found _ _ (sym c.find.ensures ∙ c.in-Some.is)) c.requires.1.wanted in let s = c.requires.0.scene.code_short in let m = c.requires.0.scene.work_long in search rules
 
 pub write_free-bounds-work-key : goal.write_free-bounds-work-key
-write_free-bounds-work-key t c = let v = free_falls c.requires.2 _ (key_found _ _ (sym c.find.ensures ∙ c.in-Key.is)) c.requires.1.wanted in let s = c.requires.0.scene.code_short in let m = c.requires.0.scene.work_long in search rules
+write_free-bounds-work-key t c = let v = free_falls c.requires.2 _ (key_found _ _ (sym c.find.ensures ∙ c.in-Some.is)) c.requires.1.wanted in let s = c.requires.0.scene.code_short in let m = c.requires.0.scene.work_long in search rules
 
 pub write_free-overflow_cast-root : goal.write_free-overflow_cast-root
-write_free-overflow_cast-root t c = omega (arith, c.shared_slice_known-6-1.given c.in-Key.key)
+write_free-overflow_cast-root t c = omega (arith, c.shared_slice_known-6-1.given c.in-Some.key)
 
 pub write_free-offset_bounds-code-root : goal.write_free-offset_bounds-code-root
-write_free-offset_bounds-code-root t c = let a = tree_root (body_tree c.requires.0 c.requires.2 (key_found _ _ (sym c.find.ensures ∙ c.in-Key.is)) refl _ c.requires.1.wanted) in let s = c.requires.0.scene.code_short in search rules
+write_free-offset_bounds-code-root t c = let a = tree_root (body_tree c.requires.0 c.requires.2 (key_found _ _ (sym c.find.ensures ∙ c.in-Some.is)) refl _ c.requires.1.wanted) in let s = c.requires.0.scene.code_short in search rules
 
 pub write_free-bounds-code-root : goal.write_free-bounds-code-root
-write_free-bounds-code-root t c = let a = tree_root (body_tree c.requires.0 c.requires.2 (key_found _ _ (sym c.find.ensures ∙ c.in-Key.is)) refl _ c.requires.1.wanted) in let s = c.requires.0.scene.code_short in search rules
+write_free-bounds-code-root t c = let a = tree_root (body_tree c.requires.0 c.requires.2 (key_found _ _ (sym c.find.ensures ∙ c.in-Some.is)) refl _ c.requires.1.wanted) in let s = c.requires.0.scene.code_short in search rules
 
 pub write_free-overflow_add-root : goal.write_free-overflow_add-root
-write_free-overflow_add-root t c = let b = (tree_bound c.if-code-root-eq-PUSHVAR.true (body_tree c.requires.0 c.requires.2 (key_found _ _ (sym c.find.ensures ∙ c.in-Key.is)) refl _ c.requires.1.wanted)).within in let s = c.requires.0.scene.code_short in search rules
+write_free-overflow_add-root t c = let b = (tree_bound c.if-code-root-eq-PUSHVAR.true (body_tree c.requires.0 c.requires.2 (key_found _ _ (sym c.find.ensures ∙ c.in-Some.is)) refl _ c.requires.1.wanted)).within in let s = c.requires.0.scene.code_short in search rules
 
 pub write_free-offset_bounds-code-root-then-code-root-eq-PUSHVAR : goal.write_free-offset_bounds-code-root-then-code-root-eq-PUSHVAR
-write_free-offset_bounds-code-root-then-code-root-eq-PUSHVAR t c = let b = (tree_bound c.if-code-root-eq-PUSHVAR.true (body_tree c.requires.0 c.requires.2 (key_found _ _ (sym c.find.ensures ∙ c.in-Key.is)) refl _ c.requires.1.wanted)).within in let s = c.requires.0.scene.code_short in search rules
+write_free-offset_bounds-code-root-then-code-root-eq-PUSHVAR t c = let b = (tree_bound c.if-code-root-eq-PUSHVAR.true (body_tree c.requires.0 c.requires.2 (key_found _ _ (sym c.find.ensures ∙ c.in-Some.is)) refl _ c.requires.1.wanted)).within in let s = c.requires.0.scene.code_short in search rules
 
 pub write_free-bounds-code-root-then-code-root-eq-PUSHVAR : goal.write_free-bounds-code-root-then-code-root-eq-PUSHVAR
-write_free-bounds-code-root-then-code-root-eq-PUSHVAR t c = let b = (tree_bound c.if-code-root-eq-PUSHVAR.true (body_tree c.requires.0 c.requires.2 (key_found _ _ (sym c.find.ensures ∙ c.in-Key.is)) refl _ c.requires.1.wanted)).within in let s = c.requires.0.scene.code_short in search rules
+write_free-bounds-code-root-then-code-root-eq-PUSHVAR t c = let b = (tree_bound c.if-code-root-eq-PUSHVAR.true (body_tree c.requires.0 c.requires.2 (key_found _ _ (sym c.find.ensures ∙ c.in-Some.is)) refl _ c.requires.1.wanted)).within in let s = c.requires.0.scene.code_short in search rules
 
 pub write_free-overflow_add-offset : goal.write_free-overflow_add-offset
-write_free-overflow_add-offset t c = let v = free_falls c.requires.2 _ (key_found _ _ (sym c.find.ensures ∙ c.in-Key.is)) c.requires.1.wanted in let s = c.requires.0.scene.code_short in let m = c.requires.0.scene.work_long in let q = c.requires.0.small in let i = c.requires.2.shallow in search rules
+write_free-overflow_add-offset t c = let v = free_falls c.requires.2 _ (key_found _ _ (sym c.find.ensures ∙ c.in-Some.is)) c.requires.1.wanted in let s = c.requires.0.scene.code_short in let m = c.requires.0.scene.work_long in let q = c.requires.0.small in let i = c.requires.2.shallow in search rules
 
 pub write_free-bound-requires : goal.write_free-bound-requires
-write_free-bound-requires t c = ready_bound (body_ready c.requires.0 c.requires.2 (key_found _ _ (sym c.find.ensures ∙ c.in-Key.is)) (omega arith) c.requires.1.wanted) (tree_bound c.if-code-root-eq-PUSHVAR.true (body_tree c.requires.0 c.requires.2 (key_found _ _ (sym c.find.ensures ∙ c.in-Key.is)) refl _ c.requires.1.wanted)).low
+write_free-bound-requires t c = ready_bound (body_ready c.requires.0 c.requires.2 (key_found _ _ (sym c.find.ensures ∙ c.in-Some.is)) (omega arith) c.requires.1.wanted) (tree_bound c.if-code-root-eq-PUSHVAR.true (body_tree c.requires.0 c.requires.2 (key_found _ _ (sym c.find.ensures ∙ c.in-Some.is)) refl _ c.requires.1.wanted)).low
 
 pub write_free-put-requires-then-code-root-eq-PUSHVAR : goal.write_free-put-requires-then-code-root-eq-PUSHVAR
-write_free-put-requires-then-code-root-eq-PUSHVAR t c = (bound_fits c.args.opened.now c.if-code-root-eq-PUSHVAR.true (room_from (body_tree c.requires.0 c.requires.2 (key_found _ _ (sym c.find.ensures ∙ c.in-Key.is)) refl) c.requires.1), c.requires.0.inside)
+write_free-put-requires-then-code-root-eq-PUSHVAR t c = (bound_fits c.args.opened.now c.if-code-root-eq-PUSHVAR.true (room_from (body_tree c.requires.0 c.requires.2 (key_found _ _ (sym c.find.ensures ∙ c.in-Some.is)) refl) c.requires.1), c.requires.0.inside)
 
 pub write_free-shape_of-res-then-code-root-eq-PUSHVAR : goal.write_free-shape_of-res-then-code-root-eq-PUSHVAR
 write_free-shape_of-res-then-code-root-eq-PUSHVAR t c = c.put-then-code-root-eq-PUSHVAR.auto.res
 
 pub write_free-returns-then-code-root-eq-PUSHVAR : goal.write_free-returns-then-code-root-eq-PUSHVAR
-write_free-returns-then-code-root-eq-PUSHVAR t c = (writes_from (body_tree c.requires.0 c.requires.2 (key_found _ _ (sym c.find.ensures ∙ c.in-Key.is)) refl) (bound_written c.args.opened.now c.if-code-root-eq-PUSHVAR.true c.bound.ensures c.put-then-code-root-eq-PUSHVAR.ensures), same_none)
+write_free-returns-then-code-root-eq-PUSHVAR t c = (writes_from (body_tree c.requires.0 c.requires.2 (key_found _ _ (sym c.find.ensures ∙ c.in-Some.is)) refl) (bound_written c.args.opened.now c.if-code-root-eq-PUSHVAR.true c.bound.ensures c.put-then-code-root-eq-PUSHVAR.ensures), same_none)
 
 pub write_free-is_constant-requires : goal.write_free-is_constant-requires
-write_free-is_constant-requires t c = (tree_root (body_tree c.requires.0 c.requires.2 (key_found _ _ (sym c.find.ensures ∙ c.in-Key.is)) refl _ c.requires.1.wanted), λ q. (tree_cell q (body_tree c.requires.0 c.requires.2 (key_found _ _ (sym c.find.ensures ∙ c.in-Key.is)) refl _ c.requires.1.wanted)).within)
+write_free-is_constant-requires t c = (tree_root (body_tree c.requires.0 c.requires.2 (key_found _ _ (sym c.find.ensures ∙ c.in-Some.is)) refl _ c.requires.1.wanted), λ q. (tree_cell q (body_tree c.requires.0 c.requires.2 (key_found _ _ (sym c.find.ensures ∙ c.in-Some.is)) refl _ c.requires.1.wanted)).within)
 
 pub write_free-head-requires : goal.write_free-head-requires
-write_free-head-requires t c = (tree_root (body_tree c.requires.0 c.requires.2 (key_found _ _ (sym c.find.ensures ∙ c.in-Key.is)) refl _ c.requires.1.wanted), λ q. (let b = tree_cell q (body_tree c.requires.0 c.requires.2 (key_found _ _ (sym c.find.ensures ∙ c.in-Key.is)) refl _ c.requires.1.wanted) in (omega (arith, b.within), omega (arith, b.name))))
+write_free-head-requires t c = (tree_root (body_tree c.requires.0 c.requires.2 (key_found _ _ (sym c.find.ensures ∙ c.in-Some.is)) refl _ c.requires.1.wanted), λ q. (let b = tree_cell q (body_tree c.requires.0 c.requires.2 (key_found _ _ (sym c.find.ensures ∙ c.in-Some.is)) refl _ c.requires.1.wanted) in (omega (arith, b.within), omega (arith, b.name))))
 
 pub write_free-put-requires-then-is_constant : goal.write_free-put-requires-then-is_constant
-write_free-put-requires-then-is_constant t c = (constant_fits c.args.opened.now (sym c.is_constant.ensures ∙ c.if-is_constant.true) (let n = c.requires.0.long in let k = c.requires.0.lambdas in omega arith) (room_from (body_tree c.requires.0 c.requires.2 (key_found _ _ (sym c.find.ensures ∙ c.in-Key.is)) refl) c.requires.1), c.requires.0.inside)
+write_free-put-requires-then-is_constant t c = (constant_fits c.args.opened.now (sym c.is_constant.ensures ∙ c.if-is_constant.true) (let n = c.requires.0.long in let k = c.requires.0.lambdas in omega arith) (room_from (body_tree c.requires.0 c.requires.2 (key_found _ _ (sym c.find.ensures ∙ c.in-Some.is)) refl) c.requires.1), c.requires.0.inside)
 
 pub write_free-shape_of-res-then-is_constant : goal.write_free-shape_of-res-then-is_constant
 write_free-shape_of-res-then-is_constant t c = c.put-then-is_constant.auto.res
 
 pub write_free-returns-then-is_constant : goal.write_free-returns-then-is_constant
-write_free-returns-then-is_constant t c = (writes_from (body_tree c.requires.0 c.requires.2 (key_found _ _ (sym c.find.ensures ∙ c.in-Key.is)) refl) (constant_written c.args.opened.now (sym c.is_constant.ensures ∙ c.if-is_constant.true) (let n = c.requires.0.long in let k = c.requires.0.lambdas in omega arith) c.head.ensures c.put-then-is_constant.ensures), same_none)
+write_free-returns-then-is_constant t c = (writes_from (body_tree c.requires.0 c.requires.2 (key_found _ _ (sym c.find.ensures ∙ c.in-Some.is)) refl) (constant_written c.args.opened.now (sym c.is_constant.ensures ∙ c.if-is_constant.true) (let n = c.requires.0.long in let k = c.requires.0.lambdas in omega arith) c.head.ensures c.put-then-is_constant.ensures), same_none)
 
 pub write_free-overflow_add-offset-2 : goal.write_free-overflow_add-offset-2
-write_free-overflow_add-offset-2 t c = let v = free_falls c.requires.2 _ (key_found _ _ (sym c.find.ensures ∙ c.in-Key.is)) c.requires.1.wanted in let s = c.requires.0.scene.code_short in let m = c.requires.0.scene.work_long in let q = c.requires.0.small in let i = c.requires.2.shallow in search rules
+write_free-overflow_add-offset-2 t c = let v = free_falls c.requires.2 _ (key_found _ _ (sym c.find.ensures ∙ c.in-Some.is)) c.requires.1.wanted in let s = c.requires.0.scene.code_short in let m = c.requires.0.scene.work_long in let q = c.requires.0.small in let i = c.requires.2.shallow in search rules
 
 pub write_free-overflow_add-key : goal.write_free-overflow_add-key
-write_free-overflow_add-key t c = let v = free_falls c.requires.2 _ (key_found _ _ (sym c.find.ensures ∙ c.in-Key.is)) c.requires.1.wanted in let s = c.requires.0.scene.code_short in let m = c.requires.0.scene.work_long in let q = c.requires.0.small in let i = c.requires.2.shallow in search rules
+write_free-overflow_add-key t c = let v = free_falls c.requires.2 _ (key_found _ _ (sym c.find.ensures ∙ c.in-Some.is)) c.requires.1.wanted in let s = c.requires.0.scene.code_short in let m = c.requires.0.scene.work_long in let q = c.requires.0.small in let i = c.requires.2.shallow in search rules
 
 pub write_free-offset_bounds-code-key : goal.write_free-offset_bounds-code-key
-write_free-offset_bounds-code-key t c = let v = free_falls c.requires.2 _ (key_found _ _ (sym c.find.ensures ∙ c.in-Key.is)) c.requires.1.wanted in let s = c.requires.0.scene.code_short in let m = c.requires.0.scene.work_long in let q = c.requires.0.small in let i = c.requires.2.shallow in search rules
+write_free-offset_bounds-code-key t c = let v = free_falls c.requires.2 _ (key_found _ _ (sym c.find.ensures ∙ c.in-Some.is)) c.requires.1.wanted in let s = c.requires.0.scene.code_short in let m = c.requires.0.scene.work_long in let q = c.requires.0.small in let i = c.requires.2.shallow in search rules
 
 pub write_free-bounds-code-key : goal.write_free-bounds-code-key
-write_free-bounds-code-key t c = let v = free_falls c.requires.2 _ (key_found _ _ (sym c.find.ensures ∙ c.in-Key.is)) c.requires.1.wanted in let s = c.requires.0.scene.code_short in let m = c.requires.0.scene.work_long in let q = c.requires.0.small in let i = c.requires.2.shallow in search rules
+write_free-bounds-code-key t c = let v = free_falls c.requires.2 _ (key_found _ _ (sym c.find.ensures ∙ c.in-Some.is)) c.requires.1.wanted in let s = c.requires.0.scene.code_short in let m = c.requires.0.scene.work_long in let q = c.requires.0.small in let i = c.requires.2.shallow in search rules
 
 pub write_free-overflow_cast-code : goal.write_free-overflow_cast-code
-write_free-overflow_cast-code t c = let v = free_falls c.requires.2 _ (key_found _ _ (sym c.find.ensures ∙ c.in-Key.is)) c.requires.1.wanted in let s = c.requires.0.scene.code_short in let m = c.requires.0.scene.work_long in let q = c.requires.0.small in let i = c.requires.2.shallow in search rules
+write_free-overflow_cast-code t c = let v = free_falls c.requires.2 _ (key_found _ _ (sym c.find.ensures ∙ c.in-Some.is)) c.requires.1.wanted in let s = c.requires.0.scene.code_short in let m = c.requires.0.scene.work_long in let q = c.requires.0.small in let i = c.requires.2.shallow in search rules
 
 pub write_free-write-requires : goal.write_free-write-requires
-write_free-write-requires t c = let v = free_falls c.requires.2 _ (key_found _ _ (sym c.find.ensures ∙ c.in-Key.is)) c.requires.1.wanted in (omega (arith, v.1, c.decreases), (body_ready c.requires.0 c.requires.2 (key_found _ _ (sym c.find.ensures ∙ c.in-Key.is)) (omega arith) c.requires.1.wanted, room_from (body_tree c.requires.0 c.requires.2 (key_found _ _ (sym c.find.ensures ∙ c.in-Key.is)) (omega arith)) c.requires.1))
+write_free-write-requires t c = let v = free_falls c.requires.2 _ (key_found _ _ (sym c.find.ensures ∙ c.in-Some.is)) c.requires.1.wanted in (omega (arith, v.1, c.decreases), (body_ready c.requires.0 c.requires.2 (key_found _ _ (sym c.find.ensures ∙ c.in-Some.is)) (omega arith) c.requires.1.wanted, room_from (body_tree c.requires.0 c.requires.2 (key_found _ _ (sym c.find.ensures ∙ c.in-Some.is)) (omega arith)) c.requires.1))
 
 pub write_free-shape_of-res : goal.write_free-shape_of-res
 write_free-shape_of-res t c = c.write.auto.res
@@ -330,7 +297,7 @@ pub write_free-shape_of-opened : goal.write_free-shape_of-opened
 write_free-shape_of-opened t c = c.write.auto.opened
 
 pub write_free-returns : goal.write_free-returns
-write_free-returns t c = (writes_from (body_tree c.requires.0 c.requires.2 (key_found _ _ (sym c.find.ensures ∙ c.in-Key.is)) (omega arith)) c.write.ensures.0, c.write.ensures.1)
+write_free-returns t c = (writes_from (body_tree c.requires.0 c.requires.2 (key_found _ _ (sym c.find.ensures ∙ c.in-Some.is)) (omega arith)) c.write.ensures.0, c.write.ensures.1)
 
 pub write_leaf-overflow_add-operand : goal.write_leaf-overflow_add-operand
 write_leaf-overflow_add-operand t c = let a = leaf_within c.requires.2 c.requires.1.wanted in let s = c.requires.0.scene.code_short in let m = c.requires.0.scene.work_long in search rules

@@ -23,8 +23,5 @@ invariant-write-loop-left l = Writing l.code l.subject l.entries l.work l.initia
 abbrev pub decreases-write-loop-left : goal.decreases-write-loop-left
 decreases-write-loop-left l = 16 * (2 * l.to + (64 - l.kept)) + l.left
 
-abbrev pub invariant-write_entry-loop-at : goal.invariant-write_entry-loop-at
-invariant-write_entry-loop-at l = Entering l.code l.subject l.entries l.work l.part l.initial.res l.res l.initial.opened l.opened l.end l.to l.push l.places l.at l.offset l.l l.level l.words
-
-abbrev pub decreases-write_entry-loop-at : goal.decreases-write_entry-loop-at
-decreases-write_entry-loop-at l = l.at
+abbrev pub invariant-write_entry-loop-node : goal.invariant-write_entry-loop-node
+invariant-write_entry-loop-node l = Entering l.code l.subject l.entries l.work l.part l.initial.res l.res l.initial.opened l.opened l.end l.to l.push l.places l.node l.offset l.l l.level l.words
