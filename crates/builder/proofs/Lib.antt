@@ -1,3 +1,2 @@
 pub mod Readied
-pub mod Cleared
 pub mod Weighing

@@ -22,12 +22,11 @@ use Rattle.links.specs.Links.{depth_in, capped}
 use Rattle.links.specs.Standing.{entry_at, Scene, root, Stands}
 use Rattle.links.specs.Sequences.{tree_at}
 use Rattle.measurer.specs.declared.Measured.{Measured}
-use Rattle.measurer.specs.declared.Measured.TheVariants as measured
+use Rattle.std.specs.Prelude.{Option, Some, None, Ok, Err}
 use Rattle.measurer.specs.Measuring.{Sequence, Measure, Measures}
 use Rattle.writer.specs.Written.{Wrote, Writes, Room, nstack}
 use Rattle.writer.specs.Wanted.{Ready, TreeAt}
 use Rattle.writer.proofs.Calling.{nstack_empty, ready_whole}
-use Rattle.builder.specs.declared.Weighed.TheVariants as weighed
 use Rattle.builder.specs.Weighing.{Building, weighed_for, Built, Weighs}
 use Rattle.builder.proofs.Readied.{scene_of, sequence, safe, term, ends, told}
 
@@ -87,16 +86,25 @@ module _ {code : List ℕ} {at : ℕ} {subject entries work : List ℕ} (b : Bui
   pub asks : Sequence code at (length code) subject entries work room
   asks = sequence b room few
 
-  module _ {work' : List ℕ} {r : Measured} (s : Measures code at (length code) subject entries work work' room r) where
-    weighs_refused : (w : Refusal) → weighed_for room level (term b) ≡ refused w → Weighs code subject entries work work' room level (weighed.Refused w)
+  module _ {work' : List ℕ} {r : Option Measured} (s : Measures code at (length code) subject entries work work' room r) where
+    weighs_refused : (w : Refusal) → weighed_for room level (term b) ≡ refused w → Weighs code subject entries work work' room level (Err w)
     weighs_refused w e = record { long = s.kept.long; term = term b; ends = ends b; says = e }
 
-    pub too_large : r ≡ measured.TooLarge → Weighs code subject entries work work' room level (weighed.Refused ResultTooLarge)
+    pub too_large : r ≡ None → Weighs code subject entries work work' room level (Err ResultTooLarge)
     too_large e =
         let h : room < nodes_of (entry_at subject entries) (tree_at code at (length code)) = rw e at s.says in
         weighs_refused ResultTooLarge (weighed_large (told b) room level h)
 
-    module _ {n far z : ℕ} (e : r ≡ measured.Of n far z) where
+    module _ {m : Measured} (e : r ≡ Some m) where
+      abbrev n : ℕ
+      n = m.nodes
+
+      abbrev far : ℕ
+      far = m.reach
+
+      abbrev z : ℕ
+      z = m.root
+
       measure : Measure code subject entries work' room at (length code) n far z
       measure = rw e at s.says
 
@@ -113,17 +121,17 @@ module _ {code : List ℕ} {at : ℕ} {subject entries work : List ℕ} (b : Bui
       root_within = let k = root_told.0 in let c = scene'.code_short in let w = scene'.work_long in (omega arith, omega arith)
 
       module _ {d : ℕ} (read : d ≡ depth_in (get_or work' z 0)) where
-        pub too_deep : 65 < level + d → Weighs code subject entries work work' room level (weighed.Refused ResultTooDeep)
+        pub too_deep : 65 < level + d → Weighs code subject entries work work' room level (Err ResultTooDeep)
         too_deep h = let k = root_told.1 in weighs_refused ResultTooDeep (weighed_deep (told b) room level small (omega arith))
 
         module _ (low : level + d ≤ 65) where
           shallow : level + depth_of (entry_at subject entries) (tree_at code at (length code)) ≤ 65
           shallow = let k = root_told.1 in omega arith
 
-          pub too_far : 65536 < far → Weighs code subject entries work work' room level (weighed.Refused ResultIndexTooLarge)
+          pub too_far : 65536 < far → Weighs code subject entries work work' room level (Err ResultIndexTooLarge)
           too_far h = weighs_refused ResultIndexTooLarge (weighed_far (told b) room level small shallow first (rw measure.reach at h))
 
-          pub fits : far ≤ 65536 → Weighs code subject entries work work' room level (weighed.Of n z)
+          pub fits : far ≤ 65536 → Weighs code subject entries work work' room level (Ok (record { nodes = n; root = z }))
           fits h = record {
             long = s.kept.long;
             term = term b;

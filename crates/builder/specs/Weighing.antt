@@ -1,5 +1,5 @@
 -- What a rule makes of an accepted subject, weighed and then written: of a run at the root of a plan, and of a rewrite at any node of it.
-use Rattle.std.specs.Prelude.{◌≡◌, ℕ, ◌+◌, ◌≤◌, true, List, [], ◌∷◌, leb, length, take, drop}
+use Rattle.std.specs.Prelude.{Result, Ok, Err, ◌≡◌, ℕ, ◌+◌, ◌≤◌, true, List, [], ◌∷◌, leb, length, take, drop}
 use Rattle.std.proofs.Math.Option.{some}
 use Rattle.documents.specs.declared.Refusal.TheVariants.{ResultTooLarge, ResultTooDeep, ResultIndexTooLarge}
 use Rattle.documents.specs.Limits.{depth_limit, index_limit}
@@ -16,7 +16,7 @@ use Rattle.matcher.specs.Ready.{Ready}
 use Rattle.links.specs.Standing.{Scene}
 use Rattle.writer.specs.Wanted.{TreeAt}
 use Rattle.builder.specs.declared.Weighed.{Weighed}
-use Rattle.builder.specs.declared.Weighed.TheVariants as weighed
+use Rattle.documents.specs.declared.Refusal.{Refusal}
 
 -- ---- What is known before
 
@@ -56,11 +56,11 @@ pub record Built (code subject entries work : List ℕ) (z : ℕ) (u : Term) : T
   pub tree : TreeAt code subject entries work (length code) 0 0 0 [] z (table_of u)
 
 module _ (code subject entries work' : List ℕ) (room level : ℕ) (u : Term) where
-  abbrev pub WeighedAs : Weighed → Type 0
-  WeighedAs (weighed.Of n z) = (n ≡ nodes u) × (weighed_for room level u ≡ answered (table_of u)) × Built code subject entries work' z u
-  WeighedAs (weighed.Refused w) = weighed_for room level u ≡ refused w
+  abbrev pub WeighedAs : Result Weighed Refusal → Type 0
+  WeighedAs (Ok w) = (w.nodes ≡ nodes u) × (weighed_for room level u ≡ answered (table_of u)) × Built code subject entries work' w.root u
+  WeighedAs (Err w) = weighed_for room level u ≡ refused w
 
-pub record Weighs (code subject entries work work' : List ℕ) (room level : ℕ) (r : Weighed) : Type 0 where
+pub record Weighs (code subject entries work work' : List ℕ) (room level : ℕ) (r : Result Weighed Refusal) : Type 0 where
   pub long : length work' ≡ length work
   pub term : Term
   pub ends : Ends code subject term

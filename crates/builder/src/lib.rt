@@ -10,7 +10,7 @@ ghost use Rattle.writer.specs.Written.{Wrote};
 ghost use Rattle.builder.specs.Weighing.{Building, Built, Weighs};
 
 use documents::Refusal;
-use links::link::depth;
+use links::link::Link;
 use measurer::{Measured, measure};
 use tables::node::{MOST_DEPTH, PLAN_NODES};
 use writer::write;
@@ -21,14 +21,14 @@ const MOST_REACH: u32 = 65536;
 // Open LAMBDAs, and nodes above: a result is at most 64 deep.
 const OPENED: usize = 128;
 
-// The nodes of what is made, and the root of its tree; or why the whole that it is a part of breaks a limit.
-#[derive(Drop)]
-pub enum Weighed {
-    Of(usize, usize),
-    Refused(Refusal),
+// The nodes of what is made, and the root of its tree.
+#[derive(Clone, Copy)]
+pub struct Weighed {
+    pub nodes: usize,
+    pub root: usize,
 }
 
-// The build part from its place on, for a root at a level, the whole's own root being at 1, and so much room: 13, 14, 15.
+// The build part from its place on, for a root at a level, the whole's own root being at 1, and so much room; or which limit the whole breaks: 13, 14, 15.
 pub fn weigh(
     code: &[u32],
     at: usize,
@@ -37,22 +37,20 @@ pub fn weigh(
     work: &mut [u32],
     room: usize,
     level: usize,
-) -> Weighed
+) -> Result<Weighed, Refusal>
     requires { Building code.now at subject.now entries.now work.old × (room ≤ 4096) × (1 ≤ level) × (level ≤ 64) }
     ensures { Weighs code.now subject.now entries.now work.old work.new room level result }
 {
     let end = code.len();
-    let Measured::Of(nodes, reach, root) = measure(code, at, end, subject, entries, work, room)
-    else {
-        return Weighed::Refused(Refusal::ResultTooLarge);
-    };
-    if MOST_DEPTH + 1 < level + depth(work[root]) as usize {
-        return Weighed::Refused(Refusal::ResultTooDeep);
+    let made = measure(code, at, end, subject, entries, work, room);
+    let Measured { nodes, reach, root } = made.ok_or(Refusal::ResultTooLarge)?;
+    if MOST_DEPTH + 1 < level + Link(work[root]).depth() as usize {
+        return Err(Refusal::ResultTooDeep);
     }
     if MOST_REACH < reach {
-        return Weighed::Refused(Refusal::ResultIndexTooLarge);
+        return Err(Refusal::ResultIndexTooLarge);
     }
-    Weighed::Of(nodes, root)
+    Ok(Weighed { nodes, root })
 }
 
 // What was weighed, before a place of a table.
@@ -89,19 +87,12 @@ pub fn put_before(
 pub fn room(words: usize) -> usize
     ensures { result ≡ min 4096 (words / 2) }
 {
-    if (PLAN_NODES as usize) < words / 2 {
-        return PLAN_NODES as usize;
-    }
-    words / 2
+    (PLAN_NODES as usize).min(words / 2)
 }
 
 // A working table after a call.
 pub fn clear(work: &mut [u32])
     ensures { work.new ≡ zeros work.old }
 {
-    let mut at: usize = 0;
-    while at < work.len() {
-        work[at] = 0;
-        at += 1;
-    }
+    work.fill(0);
 }
