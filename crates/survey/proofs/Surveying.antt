@@ -18,7 +18,7 @@ use Rattle.documents.specs.Tables.{terms_in, depth}
 use Rattle.documents.specs.Rules.{metas}
 use Rattle.documents.specs.Numbers.{table_in, subject_in}
 use Rattle.documents.proofs.Lists.{never, on, T_of, of_and, leb_max}
-use Rattle.tables.specs.declared.accept.Sized.TheVariants.{Nodes, Refused}
+use Rattle.std.specs.Prelude.{Ok, Err}
 use Rattle.tables.specs.Answers.{sized, is_good, in_layout}
 use Rattle.tables.specs.Parts.{held, first_terms, terms, front, Begins}
 use Rattle.tables.proofs.Parts.{only, headed, Shape, Opened, opened, front_term, begins_less, no_terms}
@@ -28,7 +28,7 @@ use Rattle.documents.proofs.Nodes.{depth_positive}
 use Rattle.tables.proofs.Accepted.{layout_variable, layout_applied, layout_abstraction, layout_other, holds, good_start, good_node, good_outside, good_more, good_odd, good_end, listed, listed_set, depth_headed, first_arguments, drop_arguments, good_begins, accept_long, accept_bad, accept_deep, accept_good, accepted_table, subject_refused, subject_metavariable, subject_plain}
 use Rattle.documents.specs.declared.Refusal.{Refusal}
 use Rattle.survey.proofs.Places.{length_places}
-use Rattle.survey.specs.Places.{place, places_of, Surveyed, Unfit, goes_in, whole_of, below, levels}
+use Rattle.survey.specs.Places.{place, places_of, Surveyed, Unfit, goes_in, may_stand, whole_of, below, levels}
 use Rattle.documents.specs.declared.Refusal.TheVariants as refusal
 
 -- ---- Levels
@@ -189,13 +189,6 @@ module _ (word count here : ℕ) where
           let hi = ltb-true word 131072 (on _ b.0) in
           record { above = h; layout = layout_applied word count lo (omega arith) ∙ on _ b.1; narrow = leb-true count 8 (on _ b.1); plain = λ p q. omega arith }
 
-  goes_deep : 16384 ≤ here → goes_in word count here ≡ false
-  unfolding goes_in
-  goes_deep h = rw (le-ltb here 16384 h) refl
-
-  pub stays_deep : 16384 ≤ here → false ≡ goes_in word count here
-  stays_deep h = sym (goes_deep h)
-
   pub goes_abstraction : here < 16384 → word ≡ 196608 → goes_in word count here ≡ eqb count 1
   unfolding goes_in
   goes_abstraction h e = rw (lt-ltb here 16384 h, eq-eqb word 196608 e) refl
@@ -203,12 +196,6 @@ module _ (word count here : ℕ) where
   goes_other : here < 16384 → (word ≡ 196608 → ⊥) → goes_in word count here ≡ leb 65536 word && (ltb word 131072 && leb count 8)
   unfolding goes_in
   goes_other h e = rw (lt-ltb here 16384 h, ne_eqb word 196608 e) refl
-
-  pub goes_variable : here < 16384 → (word ≡ 196608 → ⊥) → word < 65536 → goes_in word count here ≡ false
-  goes_variable h e v = goes_other h e ∙ rw (lt-leb 65536 word v) refl
-
-  pub goes_past : here < 16384 → (word ≡ 196608 → ⊥) → 65536 ≤ word → 131072 ≤ word → goes_in word count here ≡ false
-  goes_past h e v m = goes_other h e ∙ rw (le-leb 65536 word v, le-ltb word 131072 m) refl
 
   pub goes_symbol : here < 16384 → (word ≡ 196608 → ⊥) → 65536 ≤ word → word < 131072 → goes_in word count here ≡ leb count 8
   goes_symbol h e v m = goes_other h e ∙ rw (le-leb 65536 word v, lt-ltb word 131072 m) refl
@@ -241,22 +228,28 @@ module _ (word count here : ℕ) where
       go true true k l m i = no (goes_abstraction (k refl) (m refl) ∙ sym (layout_abstraction word count (m refl)) ∙ y)
       go true false k l m i = more (k refl) (i refl) (ltb word 65536) (leb 131072 word) (ltb-true word 65536) (ltb-false word 65536) (leb-true 131072 word) (leb-false 131072 word)
 
+-- a node that may stand there, by its count
+module _ (word count here : ℕ) (e : may_stand word count here ≡ true) where
+  pub stands_in : (count ≡ 0 → ⊥) → goes_in word count here ≡ true
+  unfolding may_stand
+  stands_in n = rw (ne_eqb count 0 n) at e
+
+  pub stands_leaf : count ≡ 0 → word < 131072
+  unfolding may_stand
+  stands_leaf z = let l = rw (eq-eqb count 0 z) at e in ltb-true word 131072 l
+
 module _ (words n : ℕ) where
-  pub whole_all : words ≡ 2 * n → whole_of words n ≡ Nodes n
+  pub whole_all : words ≡ 2 * n → whole_of words n ≡ Ok n
   unfolding whole_of
   whole_all e = rw (eq-eqb words (2 * n) e) refl
 
-  pub whole_more : (words ≡ 2 * n → ⊥) → whole_of words n ≡ Refused refusal.TableNotGood
+  pub whole_more : (words ≡ 2 * n → ⊥) → whole_of words n ≡ Err refusal.TableNotGood
   unfolding whole_of
   whole_more e = rw (ne_eqb words (2 * n) e) refl
 
 pub below_abstraction : (here word : ℕ) → word ≡ 196608 → below here word ≡ here + 257
 unfolding below
 below_abstraction here word e = rw (eq-eqb word 196608 e) refl
-
-pub below_other : (here word : ℕ) → (word ≡ 196608 → ⊥) → below here word ≡ here + 256
-unfolding below
-below_other here word e = rw (ne_eqb word 196608 e) refl
 
 pub below_most : (here word : ℕ) → below here word ≤ here + 257
 unfolding below
@@ -265,14 +258,6 @@ below_most here word = go (eqb word 196608)
     go : (q : Bool) → cond q (here + 257) (here + 256) ≤ here + 257
     go true = omega arith
     go false = omega arith
-
-pub levels_few : (kept here : ℕ) → here < 131072 → levels kept here ≡ kept
-unfolding levels
-levels_few kept here h = rw (lt-ltb here 131072 h) refl
-
-pub levels_more : (kept here : ℕ) → 131072 ≤ here → levels kept here ≡ kept + 1
-unfolding levels
-levels_more kept here h = rw (le-ltb here 131072 h) refl
 
 below_binds : {c : ℕ} {us vs : List Term} (here word : ℕ) → Opened (word / 65536) (word % 65536) c us vs → below here word ≡ here + 256 + binds (word / 65536)
 unfolding below
@@ -433,29 +418,29 @@ module _ {subject places : List ℕ} {node here : ℕ} {ws : List ℕ} (s : Stan
 
 -- ---- The answers
 
-pub surveyed_refused : {subject : List ℕ} (places : List ℕ) (r : Refusal) → Refused r ≡ sized (subject_in subject) → Surveyed subject places (Refused r)
+pub surveyed_refused : {subject : List ℕ} (places : List ℕ) (r : Refusal) → Err r ≡ sized (subject_in subject) → Surveyed subject places (Err r)
 surveyed_refused places r e = record { size = e; table = λ n f. never (cc) }
 
-pub surveyed_long : (subject places : List ℕ) → 8192 < length subject → Surveyed subject places (Refused refusal.TooManyWords)
+pub surveyed_long : (subject places : List ℕ) → 8192 < length subject → Surveyed subject places (Err refusal.TooManyWords)
 surveyed_long subject places h = surveyed_refused places _ (sym (subject_refused subject _ (sym (accept_long plan_limit subject h))))
 
-pub refused_bad : (subject : List ℕ) → length subject ≤ 8192 → is_good subject ≡ false → Refused refusal.TableNotGood ≡ sized (subject_in subject)
+pub refused_bad : (subject : List ℕ) → length subject ≤ 8192 → is_good subject ≡ false → Err refusal.TableNotGood ≡ sized (subject_in subject)
 refused_bad subject h g = sym (subject_refused subject _ (sym (accept_bad plan_limit subject h g)))
 
 module _ (subject : List ℕ) (g : is_good subject ≡ true) (l : length subject ≤ 8192) where
-  pub refused_deep : leb (depth (front subject)) 64 ≡ false → Refused refusal.TooDeep ≡ sized (subject_in subject)
+  pub refused_deep : leb (depth (front subject)) 64 ≡ false → Err refusal.TooDeep ≡ sized (subject_in subject)
   refused_deep d = sym (subject_refused subject refusal.TooDeep (sym (accept_deep plan_limit subject l g d)))
 
-  accepted : leb (depth (front subject)) 64 ≡ true → Nodes (length subject / 2) ≡ sized (table_in plan_limit subject)
+  accepted : leb (depth (front subject)) 64 ≡ true → Ok (length subject / 2) ≡ sized (table_in plan_limit subject)
   accepted d = sym (accept_good plan_limit subject l g d)
 
-  refused_metavariable : leb (depth (front subject)) 64 ≡ true → is_empty (metas (front subject)) ≡ false → Refused refusal.MetavariableInSubject ≡ sized (subject_in subject)
+  refused_metavariable : leb (depth (front subject)) 64 ≡ true → is_empty (metas (front subject)) ≡ false → Err refusal.MetavariableInSubject ≡ sized (subject_in subject)
   refused_metavariable d m = sym (subject_metavariable (accepted_table plan_limit subject _ (accepted d)) m)
 
-  pub refused_unfit : Unfit subject → leb (depth (front subject)) 64 ≡ true → Refused refusal.MetavariableInSubject ≡ sized (subject_in subject)
+  pub refused_unfit : Unfit subject → leb (depth (front subject)) 64 ≡ true → Err refusal.MetavariableInSubject ≡ sized (subject_in subject)
   refused_unfit u d = refused_metavariable d (rw d at (u g))
 
-  surveyed_whole : (places : List ℕ) (n : ℕ) → n ≤ length places → Standing subject places n [] → Surveyed subject places (Nodes n)
+  surveyed_whole : (places : List ℕ) (n : ℕ) → n ≤ length places → Standing subject places n [] → Surveyed subject places (Ok n)
   surveyed_whole places n h s =
       let t : take n places ≡ places_of 1 0 (front subject) = sym (append-nil (take n places)) ∙ s.done in
       let a = ap (λ (x : List ℕ). length x) t in
@@ -465,7 +450,7 @@ module _ (subject : List ℕ) (g : is_good subject ≡ true) (l : length subject
       let e : n ≡ length subject / 2 = omega arith in
       record {
         size =
-            ap Nodes e
+            ap Ok e
             ∙ sym (subject_plain (accepted_table plan_limit subject _ (accepted (sym s.shallow))) (sym s.plain ∙ ap (λ (x : Terms). is_empty (metas x)) (no_terms (drop (2 * n) subject))));
         table = λ m f. let q : n ≡ m = cc in rw q at t;
       }
@@ -512,7 +497,7 @@ surveying_from {subject} places h =
 
 module _ {subject places waiting : List ℕ} {kept here node : ℕ} (s : Surveying subject places waiting kept here node) where
   -- the words run out
-  pub surveying_short : length subject ≤ 2 * node + 1 → Refused refusal.TableNotGood ≡ sized (subject_in subject)
+  pub surveying_short : length subject ≤ 2 * node + 1 → Err refusal.TableNotGood ≡ sized (subject_in subject)
   surveying_short h = refused_bad subject s.short (sym s.good ∙ go (leb (length subject) (2 * node)) (leb-true (length subject) (2 * node)) (leb-false (length subject) (2 * node)))
     where
       n : ℕ
@@ -546,12 +531,20 @@ module _ {subject places waiting : List ℕ} {kept here node : ℕ} (s : Surveyi
     with_metavariable : is_good subject ≡ true → 131072 ≤ word' → word' < 196608 → leb (depth (front subject)) 64 && is_empty (metas (front subject)) ≡ false
     with_metavariable g lo hi = rw (standing_metavariable (s.standing g) lo hi) (and-false (leb (depth (front subject)) 64))
 
-    pub refused_leaf : count' ≡ 0 → 131072 ≤ word' → Refusable
+    refused_leaf : count' ≡ 0 → 131072 ≤ word' → Refusable
     refused_leaf z lo = (s.short, λ g. with_metavariable g lo (leaf_metavariable word' count' 0 (in_good g) z), outside)
 
-    pub refused_stays : (count' ≡ 0 → ⊥) → goes_in word' count' (here % 65536) ≡ false → Refusable
+    refused_stays : (count' ≡ 0 → ⊥) → goes_in word' count' (here % 65536) ≡ false → Refusable
     refused_stays c e =
         (s.short, λ g. stays word' count' (here % 65536) (in_good g) c e (with_metavariable g) (λ p. rw (standing_deep (s.standing g) p (omega arith)) refl), outside)
+
+    pub refused_here : may_stand word' count' (here % 65536) ≡ false → Refusable
+    unfolding may_stand
+    refused_here e = go (eqb count' 0) (eqb-true count' 0) (eqb-false count' 0) e
+      where
+        go : (q : Bool) → (q ≡ true → count' ≡ 0) → (q ≡ false → count' ≡ 0 → ⊥) → cond q (ltb word' 131072) (goes_in word' count' (here % 65536)) ≡ false → Refusable
+        go true z n e = refused_leaf (z refl) (ltb-false word' 131072 e)
+        go false z n e = refused_stays (n refl) e
 
     spot : node < length places
     spot = let l = s.short in let p = s.wide in omega arith

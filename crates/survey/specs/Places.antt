@@ -6,9 +6,9 @@ use Rattle.documents.specs.Terms.{Sort, Tm, Var, Sym, Meta, Abst, Nil, Cons}
 use Rattle.documents.specs.Tables.{depth}
 use Rattle.documents.specs.Rules.{metas}
 use Rattle.documents.specs.Numbers.{subject_in}
+use Rattle.documents.specs.declared.Refusal.{Refusal}
 use Rattle.documents.specs.declared.Refusal.TheVariants.{TableNotGood}
-use Rattle.tables.specs.declared.accept.Sized.{Sized}
-use Rattle.tables.specs.declared.accept.Sized.TheVariants.{Nodes, Refused}
+use Rattle.std.specs.Prelude.{Result, Ok, Err}
 use Rattle.tables.specs.Answers.{sized, is_good}
 use Rattle.tables.specs.Parts.{front}
 
@@ -26,9 +26,9 @@ places_of d n Nil = []
 places_of d n (Cons t ts) = places_of d n t ++ places_of d n ts
 
 -- The answer of the check, and of an accepted subject the places of its nodes. Where it is refused, nothing is said of the table of places.
-pub record Surveyed (subject places : List ℕ) (r : Sized) : Type 0 where
+pub record Surveyed (subject places : List ℕ) (r : Result ℕ Refusal) : Type 0 where
   pub size : r ≡ sized (subject_in subject)
-  pub table : (n : ℕ) → r ≡ Nodes n → take n places ≡ places_of 1 0 (front subject)
+  pub table : (n : ℕ) → r ≡ Ok n → take n places ≡ places_of 1 0 (front subject)
 
 -- The subject is not good, too deep, or has a metavariable.
 abbrev pub Unfit : List ℕ → Type 0
@@ -37,6 +37,10 @@ Unfit subject = is_good subject ≡ true → leb (depth (front subject)) depth_l
 -- an abstraction or a symbol with so many arguments, at a place that is not of depth 64
 unfoldable pub goes_in : ℕ → ℕ → ℕ → Bool
 goes_in word count here = ltb here 16384 && cond (eqb word 196608) (eqb count 1) (leb 65536 word && (ltb word 131072 && leb count 8))
+
+-- a node that a subject may have at a place: without arguments, any but a metavariable; else one as just said
+unfoldable pub may_stand : ℕ → ℕ → ℕ → Bool
+may_stand word count here = cond (eqb count 0) (ltb word 131072) (goes_in word count here)
 
 -- the place of a node's arguments: only an abstraction, which has one first word, is above them besides
 unfoldable pub below : ℕ → ℕ → ℕ
@@ -47,5 +51,5 @@ unfoldable pub levels : ℕ → ℕ → ℕ
 levels kept level = cond (ltb level 131072) kept (kept + 1)
 
 -- a table that has no term left to hold is good if it has no word left
-unfoldable pub whole_of : ℕ → ℕ → Sized
-whole_of words n = cond (eqb words (2 * n)) (Nodes n) (Refused TableNotGood)
+unfoldable pub whole_of : ℕ → ℕ → Result ℕ Refusal
+whole_of words n = cond (eqb words (2 * n)) (Ok n) (Err TableNotGood)

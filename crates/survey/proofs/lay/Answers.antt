@@ -1,46 +1,56 @@
-use mathlib.Core.Path.{refl, sym, ◌∙◌}
-use Prim.Native.Nat.{◌*◌, ◌%◌}
+use mathlib.Core.Path.{sym, ◌∙◌}
+use Prim.Native.Nat.{◌*◌, ◌+◌, ◌%◌, ◌<◌}
 use native.Mathlib.Omega.{arith}
-use lib.ListN.{get_or, length-set}
+use lib.ListN.{get_or, length}
 use borrow.Author.Rules.{rules}
-use Rattle.survey.proofs.Surveying.{surveying_from, surveying_short, surveying_down, surveying_more, surveying_up, surveying_end, surveyed_refused, refused_leaf, refused_stays, goes_in_lem, below_most}
+use Rattle.survey.proofs.Surveying.{surveying_from, surveying_short, surveying_down, surveying_more, surveying_up, surveying_end, surveyed_refused, refused_here, stands_in, stands_leaf, goes_in_lem, below_most}
+use Rattle.survey.proofs.Noting.{stands}
 use Rattle.survey.proofs.lay.Goals as goal
+use Rattle.survey.proofs.lay.Goals.{then-count-ne0, else-count-ne0+then-here, else-count-ne0+else-here+else-kept-eq0}
 
 pub loop-node-init : goal.loop-node-init
-loop-node-init c = (surveying_from _ c.requires, refl)
+loop-node-init g c = surveying_from _ (c.requires.short, c.requires.room)
+
+pub may_stand-requires : goal.may_stand-requires
+may_stand-requires g c = λ t. stands _ (c.requires.known t) c.loop-node.invariant (omega arith)
 
 pub refusal_at-requires : goal.refusal_at-requires
-refusal_at-requires c = refused_leaf c.loop-node.invariant.0 (omega arith) c.if-count-eq0.true c.if-word-ge-FIRST_METAVARIABLE.true
-
-pub returns-then-word-ge-FIRST_METAVARIABLE : goal.returns-then-word-ge-FIRST_METAVARIABLE
-returns-then-word-ge-FIRST_METAVARIABLE c = surveyed_refused _ _ c.refusal_at.ensures
-
-pub loop-node-preserved-then-here : goal.loop-node-preserved-then-here
-loop-node-preserved-then-here c = (surveying_more c.loop-node.invariant.0 (omega arith) c.if-count-eq0.true (omega arith) c.if-here.true, simp length-set c.loop-node.invariant.1)
-
-pub returns-then-kept-eq0 : goal.returns-then-kept-eq0
-returns-then-kept-eq0 c = rw c.whole.ensures (surveying_end c.loop-node.invariant.0 (omega arith) c.if-count-eq0.true (omega arith) (omega arith) c.if-kept-eq0.true)
-
-pub loop-node-preserved-then-count-eq0 : goal.loop-node-preserved-then-count-eq0
-loop-node-preserved-then-count-eq0 c = (surveying_up c.loop-node.invariant.0 (omega arith) c.if-count-eq0.true (omega arith) (omega arith) c.if-kept-eq0.false, simp length-set c.loop-node.invariant.1)
-
-pub refusal_at-requires-then-not-goes_in : goal.refusal_at-requires-then-not-goes_in
-refusal_at-requires-then-not-goes_in c = refused_stays c.loop-node.invariant.0 (omega arith) c.if-count-eq0.false (sym c.goes_in.ensures ∙ c.if-not-goes_in.true)
-
-pub returns-then-not-goes_in : goal.returns-then-not-goes_in
-returns-then-not-goes_in c = surveyed_refused _ _ c.refusal_at-then-not-goes_in.ensures
+refusal_at-requires g c = refused_here c.loop-node.invariant (omega arith) (sym c.may_stand.ensures ∙ c.if-not-may_stand.true)
 
 pub overflow_mul-here : goal.overflow_mul-here
-overflow_mul-here c = let o = (goes_in_lem _ _ _ (sym c.goes_in.ensures ∙ c.if-not-goes_in.false)).narrow in search rules
+overflow_mul-here g c =
+    let o = (goes_in_lem _ _ _ (stands_in _ _ _ (sym c.may_stand.ensures ∙ c.if-not-may_stand.false) c.if-count-ne0.true)).narrow in
+    search rules
 
 pub inside-requires : goal.inside-requires
-inside-requires c = (goes_in_lem _ _ _ (sym c.goes_in.ensures ∙ c.if-not-goes_in.false)).above
+inside-requires g c = (goes_in_lem _ _ _ (stands_in _ _ _ (sym c.may_stand.ensures ∙ c.if-not-may_stand.false) c.if-count-ne0.true)).above
 
 pub overflow_add-here : goal.overflow_add-here
-overflow_add-here c = let i = goes_in_lem _ _ _ (sym c.goes_in.ensures ∙ c.if-not-goes_in.false) in let o = i.narrow in let a = i.above in let e = c.inside.ensures in let b = below_most (c.loop-node.here % 65536) (get_or c.args.subject.now (2 * c.loop-node.node) 0) in search rules
+overflow_add-here g c =
+    let i = goes_in_lem _ _ _ (stands_in _ _ _ (sym c.may_stand.ensures ∙ c.if-not-may_stand.false) c.if-count-ne0.true) in
+    let o = i.narrow in
+    let a = i.above in
+    let e = c.inside.ensures in
+    let b = below_most (c.loop-node.here % 65536) (get_or c.args.subject.now (2 * c.loop-node.node) 0) in
+    search rules
+
+pub returns-then-kept-eq0 : goal.returns-then-kept-eq0
+returns-then-kept-eq0 g c =
+    rw c.whole.ensures
+    (surveying_end c.loop-node.invariant (omega arith) (omega arith) (stands_leaf _ _ _ (sym c.may_stand.ensures ∙ c.if-not-may_stand.false) (omega arith)) (omega arith) c.if-kept-eq0.true)
 
 pub loop-node-preserved : goal.loop-node-preserved
-loop-node-preserved c = (rw (c.keep-kept.ensures, c.inside.ensures) (surveying_down c.loop-node.invariant.0 (omega arith) (sym c.goes_in.ensures ∙ c.if-not-goes_in.false) c.if-count-eq0.false), simp length-set c.loop-node.invariant.1)
+loop-node-preserved g c =
+    let i = c.loop-node.invariant in
+    let h : 2 * c.loop-node.node + 1 < length c.args.subject.now = omega arith in
+    let m = sym c.may_stand.ensures ∙ c.if-not-may_stand.false in
+    elim c.if-count-ne0.branch [
+      | then-count-ne0 w ↦
+          rw (w.waiting-is, w.kept-is, w.here-is, w.keep-kept.ensures, w.inside.ensures) (surveying_down i h (stands_in _ _ _ m w.if-count-ne0.true) w.if-count-ne0.true)
+      | else-count-ne0+then-here w ↦ rw (w.waiting-is, w.kept-is, w.here-is) (surveying_more i h (omega arith) (stands_leaf _ _ _ m (omega arith)) w.if-here.true)
+      | else-count-ne0+else-here+else-kept-eq0 w ↦
+          rw (w.waiting-is, w.kept-is, w.here-is) (surveying_up i h (omega arith) (stands_leaf _ _ _ m (omega arith)) (omega arith) w.if-kept-eq0.false)
+    ]
 
 pub returns : goal.returns
-returns c = surveyed_refused _ _ (surveying_short c.loop-node.invariant.0 (omega arith))
+returns g c = surveyed_refused _ _ (surveying_short c.loop-node.invariant (omega arith))

@@ -1,14 +1,8 @@
 -- `lay` meets its contract. The table is good if the words behind the node hold as many terms as are owed; and if it is, the places noted so far and
 -- those of the terms owed at each level are the subject's, and so are its depth and metavariables (`Surveying`). A node's arguments are owed one
--- level further in, at the place that they have; a level that owes nothing is not kept. The words left fall.
-use mathlib.Core.Path.{◌≡◌}
-use Prim.Native.Nat.{◌-◌, ◌*◌}
-use lib.ListN.{length}
+-- level further in, at the place that they have; a level that owes nothing is not kept.
 use Rattle.survey.proofs.Surveying.{Surveying}
 use Rattle.survey.proofs.lay.Given as goal
 
 abbrev pub invariant-loop-node : goal.invariant-loop-node
-invariant-loop-node l = Surveying l.subject l.places l.waiting l.kept l.here l.node × (length l.places ≡ length l.initial.places)
-
-abbrev pub decreases-loop-node : goal.decreases-loop-node
-decreases-loop-node l = length l.subject - 2 * l.node
+invariant-loop-node g l = Surveying l.subject l.places l.waiting l.kept l.here l.node
