@@ -461,3 +461,11 @@ verdict_passes code e f = go (passes code) (sym f ∙ e)
     go : (q : Bool) → Ok tt ≡ verdict q → q ≡ true
     go true e = refl
     go false e = never (cc)
+
+-- the refusal is 11
+pub verdict_why : (code : List ℕ) {r : Result (Unit {0}) Refusal} {w : Refusal} → r ≡ verdict (passes code) → r ≡ Err w → w ≡ DoesNotPass
+verdict_why code {r} {w} e f = go (passes code) (sym f ∙ e)
+  where
+    go : (q : Bool) → Err w ≡ verdict q → w ≡ DoesNotPass
+    go true e = never (cc)
+    go false e = cc

@@ -20,8 +20,8 @@ use Rattle.documents.specs.Passing.{and_then_holds, obeys, passes}
 use Rattle.documents.specs.Numbers.{Answer, answered, refused, with, subject_in, code_in, outcome_of}
 use Rattle.documents.specs.Calls.{node_of, counts, watches}
 use Rattle.documents.proofs.Lists.{never, on, T_of, of_and}
-use Rattle.tables.specs.declared.accept.Sized.{Sized}
-use Rattle.tables.specs.declared.accept.Sized.TheVariants as sized
+use Rattle.std.specs.Prelude.{Result, Ok, Err}
+use Rattle.matcher.specs.declared.Standing.{Standing}
 use Rattle.tables.specs.Parts.{front, terms}
 use Rattle.tables.specs.Answers.{sized}
 use Rattle.tables.proofs.Parts.{passed}
@@ -31,16 +31,11 @@ use Rattle.safety.proofs.Building.{laid, builds_as_checked}
 use Rattle.safety.proofs.Matching.{currents_length}
 use Rattle.safety.proofs.NeverStuck.{passing_obeys}
 use Rattle.safety.proofs.Counts.{total, length_laid}
-use Rattle.checker.specs.declared.Checked.{Checked}
-use Rattle.checker.specs.declared.Checked.TheVariants as checked
 use Rattle.checker.specs.Matched.{verdict}
 use Rattle.checker.proofs.Matching.{not_passed}
-use Rattle.matcher.specs.declared.Stepped.{Stepped}
-use Rattle.matcher.specs.declared.Stepped.TheVariants as stepped
-use Rattle.matcher.specs.Midway.{Any, in_line, entered, Midway, state_of, entries_after, made_after, Moves, Fails, Steps}
+use Rattle.matcher.specs.Midway.{Any, in_line, entered, Midway, state_of, entries_after, Moves, Fails, Steps}
 use Rattle.matcher.proofs.Parts.{begins_whole}
 use Rattle.matcher.proofs.Whole.{midway_start, start_is, start_rest, begins_build, build_state}
-use Rattle.watcher.specs.declared.Watched.TheVariants as watched
 use Rattle.watcher.specs.Watching.{as_watched}
 use Rattle.watcher.specs.Counting.{Counted, Finishes}
 
@@ -62,18 +57,18 @@ first_none rest σ (suc left) h = absurd (omega arith)
 -- ---- what a watch comes to
 
 module _ (code subject : List ℕ) (i : ℕ) where
-  pub watch_unchecked : {r : Checked} {w : Refusal} → r ≡ verdict (passes code) → r ≡ checked.Refused w → watched.Refused DoesNotPass ≡ as_watched (watches code subject i)
+  pub watch_unchecked : {r : Result (Unit {0}) Refusal} {w : Refusal} → r ≡ verdict (passes code) → r ≡ Err w → Err DoesNotPass ≡ as_watched (watches code subject i)
   unfolding watches code_in
   watch_unchecked e f = rw (not_passed (passes code) (sym f ∙ e))
 
   module _ (p : passes code ≡ true) where
-    pub watch_refused : {r : Sized} {w : Refusal} → r ≡ sized (subject_in subject) → r ≡ sized.Refused w → watched.Refused w ≡ as_watched (watches code subject i)
+    pub watch_refused : {r : Result ℕ Refusal} {w : Refusal} → r ≡ sized (subject_in subject) → r ≡ Err w → Err w ≡ as_watched (watches code subject i)
     unfolding watches code_in
     watch_refused e f =
         let q = (passing_obeys code (T_of _ p)).1 in
         rw (p, q) (go (subject_in subject) (sym f ∙ e))
       where
-        go : {w : Refusal} (a : Answer Term) → sized.Refused w ≡ sized a → watched.Refused w ≡ as_watched (with a (λ t. with (outcome_of (run (first i (passing_obeys code (T_of _ p)).0) t)) (λ σ. answered (counts t σ))))
+        go : {w : Refusal} (a : Answer Term) → Err w ≡ sized a → Err w ≡ as_watched (with a (λ t. with (outcome_of (run (first i (passing_obeys code (T_of _ p)).0) t)) (λ σ. answered (counts t σ))))
         go (answered t) e = never (cc)
         go (refused v) e = cc
 
@@ -112,21 +107,22 @@ module _ {code subject entries : List ℕ} {i at top owed made left : ℕ} (f : 
   following_on : {entries' : List ℕ} {made' p top' owed' : ℕ} → Moves f.midway entries' made' p top' owed' → 0 < left → Following code subject entries' i p top' owed' made' (left - 1)
   following_on s h = record { midway = s.next; goes = λ c e. f.goes c e ∙ first_moved f.midway.rest s.i s.next.rest _ _ left s.begins s.goes h }
 
-  module _ {r : Stepped} (s : Steps code subject entries at top owed made r) where
-    pub following_refused : {w : Refusal} → passes code ≡ true → subject_in subject ≡ answered (front subject) → 0 < left → r ≡ stepped.Refused w
-        → watched.Refused MatchFails ≡ as_watched (watches code subject i)
-    following_refused {w} p a h e =
-        let x : Fails f.midway w = rw e at (s.means f.midway) in
-        ap as_watched (sym (watch_fails_lem code subject i p a (f.goes _ (passing_obeys code (T_of _ p)).1 ∙ first_failed f.midway.rest x.i x.c _ left x.begins x.goes h)))
+-- a step of it
+module _ {code subject entries : List ℕ} {i left : ℕ} {here : Standing} (f : Following code subject entries i here.at here.top here.current here.made left)
+    {r : Result Standing Refusal} (s : Steps code subject entries here r) where
+  pub following_refused : {w : Refusal} → passes code ≡ true → subject_in subject ≡ answered (front subject) → 0 < left → r ≡ Err w
+      → (w ≡ MatchFails) × (Err MatchFails ≡ as_watched (watches code subject i))
+  following_refused {w} p a h e =
+      let x : Fails f.midway w = rw e at (s.means f.midway) in
+      (x.why, ap as_watched (sym (watch_fails_lem code subject i p a (f.goes _ (passing_obeys code (T_of _ p)).1 ∙ first_failed f.midway.rest x.i x.c _ left x.begins x.goes h))))
 
-    module _ {p top' owed' : ℕ} (e : r ≡ stepped.To p top' owed') where
-      to : Moves f.midway (entries_after (get_or code at 0) entries made top) (made_after (get_or code at 0) made) p top' owed'
-      to = rw e at (s.means f.midway)
+  pub following_next : {next : Standing} (e : r ≡ Ok next) {new : List ℕ} {n : ℕ} → 0 < left → n ≡ left - 1 → new ≡ entries_after (get_or code here.at 0) entries here.made here.top
+      → Following code subject new i next.at next.top next.current next.made n
+  following_next {next} e h k z =
+      let to : Moves f.midway (entries_after (get_or code here.at 0) entries here.made here.top) next.made next.at next.top next.current = rw e at (s.means f.midway) in
+      rw (k, z) (following_on f to h)
 
-      pub following_next : {new : List ℕ} {n : ℕ} → 0 < left → new ≡ entries_after (get_or code at 0) entries made top → n ≡ made_after (get_or code at 0) made
-          → Following code subject new i p top' owed' n (left - 1)
-      following_next h e f = rw (e, f) (following_on to h)
-
+module _ {code subject entries : List ℕ} {i at top owed made left : ℕ} (f : Following code subject entries i at top owed made left) where
   -- ---- the counts
 
   entry_count_lem : length (entered subject entries f.midway.es) ≡ made
@@ -146,7 +142,7 @@ module _ {code subject entries : List ℕ} {i at top owed made left : ℕ} (f : 
   half : top / 2 ≡ f.midway.node
   half = let k = f.midway.place_is in omega arith
 
-  pub following_stopped : passes code ≡ true → subject_in subject ≡ answered (front subject) → left ≤ 0 → watched.Counts owed made 0 (top / 2) ≡ as_watched (watches code subject i)
+  pub following_stopped : passes code ≡ true → subject_in subject ≡ answered (front subject) → left ≤ 0 → Ok (record { current = owed; entries = made; finished = 0; node = top / 2 }) ≡ as_watched (watches code subject i)
   following_stopped p a h =
       let e = watch_done code subject i p a (state_of f.midway) (f.goes _ (passing_obeys code (T_of _ p)).1 ∙ first_none f.midway.rest (state_of f.midway) left h) in
       let c = currents_length Any f.midway.ds _ f.midway.agrees.0 ∙ f.midway.depths in
@@ -169,7 +165,7 @@ module _ {code subject entries : List ℕ} {i at top owed made left : ℕ} (f : 
     }
 
     pub following_built : {n : ℕ} (p : passes code ≡ true) → subject_in subject ≡ answered (front subject) → Finishes code at left n
-        → watched.Counts 0 made n (top / 2) ≡ as_watched (watches code subject i)
+        → Ok (record { current = 0; entries = made; finished = n; node = top / 2 }) ≡ as_watched (watches code subject i)
     unfolding counted_from
     following_built {n} p a s =
         let x = s.means (counted_from p) in

@@ -244,8 +244,8 @@ first_step es es₀ rest i c hs ks (suc left) e f g h =
     rw (z, f, q)
 
 module _ {code : List ℕ} {from i at left finished : ℕ} (g : Growing code from i at left finished) where
-  pub growing_on : {r : Built} → Grows code at finished r → 0 < left → Growing code from i r.next (left - 1) r.finished
-  growing_on s h = record {
+  pub growing_on : {r : Built} {n : ℕ} → Grows code at finished r → 0 < left → n ≡ left - 1 → Growing code from i r.next n r.finished
+  growing_on s h e = rw e record {
     now = (s.means g.now).next;
     onward = λ c.
         let o = g.onward c in

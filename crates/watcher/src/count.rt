@@ -6,7 +6,7 @@ use documents::op::{CELL, PUSHI, PUSHVAR};
 use instructions::body::behind;
 
 // Where the next outermost instruction stands, and how many finished terms there are then.
-#[derive(Drop)]
+#[derive(Clone, Copy)]
 pub struct Built {
     pub next: usize,
     pub finished: u32,
@@ -17,19 +17,17 @@ pub fn build_part(code: &[u32], from: usize, i: u32) -> u32
     requires { Counted code.now from 0 }
     ensures { Finishes code.now from i result }
 {
-    let mut at: usize = from;
-    let mut left: u32 = i;
-    let mut finished: u32 = 0;
-    while at < code.len() {
-        if left == 0 {
-            return finished;
+    let mut built = Built {
+        next: from,
+        finished: 0,
+    };
+    for _ in 0..i {
+        if code.len() <= built.next {
+            return built.finished;
         }
-        let built = grow(code, at, finished);
-        at = built.next;
-        finished = built.finished;
-        left -= 1;
+        built = grow(code, built.next, built.finished);
     }
-    finished
+    built.finished
 }
 
 // One instruction. LAMBDA makes no term, ADBMAL takes one and makes one.

@@ -11,59 +11,53 @@ ghost use Rattle.tables.specs.Parts.{front};
 ghost use Rattle.watcher.specs.Watching.{as_watched};
 
 use crate::count::build_part;
-use checker::{Checked, check};
+use checker::check;
 use documents::Refusal;
 use documents::op::EQI;
 use instructions::limit::MOST_ENTRIES;
-use matcher::{Stepped, enter, step};
-use tables::accept::{Sized, accept_subject};
+use matcher::{Standing, step};
+use tables::accept::accept_subject;
 
 // Current terms, entries, finished terms, and the node number of the current term, the subject's node count if there is none.
-#[derive(Drop)]
-pub enum Watched {
-    Counts(u32, u32, u32, u32),
-    Refused(Refusal),
+#[derive(Clone, Copy)]
+pub struct Counts {
+    pub current: u32,
+    pub entries: u32,
+    pub finished: u32,
+    pub node: u32,
 }
 
 // After the first i instructions, all if there are fewer: 11, then 2, 1, 3, 4, then 12.
-pub fn watch(code: &[u32], subject: &[u32], i: u32) -> Watched
+pub fn watch(code: &[u32], subject: &[u32], i: u32) -> Result<Counts, Refusal>
     ensures { result ≡ as_watched (watches code.now subject.now i) }
 {
-    let Checked::Passes = check(code) else {
-        return Watched::Refused(Refusal::DoesNotPass);
-    };
-    let Sized::Refused(why) = accept_subject(subject) else {
-        return follow(code, subject, i);
-    };
-    Watched::Refused(why)
+    check(code)?;
+    accept_subject(subject)?;
+    follow(code, subject, i)
 }
 
 // The match part, one instruction after the other.
-fn follow(code: &[u32], subject: &[u32], i: u32) -> Watched
+fn follow(code: &[u32], subject: &[u32], i: u32) -> Result<Counts, Refusal>
     requires { (passes code.now ≡ true) × (subject_in subject.now ≡ answered (front subject.now)) }
     ensures { result ≡ as_watched (watches code.now subject.now i) }
 {
     let mut entries = [0u32; MOST_ENTRIES];
-    let mut at: usize = 0;
-    let mut top: usize = 0;
-    let mut current: usize = 1;
-    let mut made: usize = 0;
-    let mut left: u32 = i;
-    while 0 < left {
-        let op = code[at];
-        if EQI < op {
-            let finished = build_part(code, at, left);
-            return Watched::Counts(0, made as u32, finished, (top / 2) as u32);
+    let mut here = Standing::START;
+    for done in 0..i {
+        if EQI < code[here.at] {
+            return Ok(Counts {
+                current: 0,
+                entries: here.made as u32,
+                finished: build_part(code, here.at, i - done),
+                node: (here.top / 2) as u32,
+            });
         }
-        let Stepped::To(next, place, terms) = step(code, at, subject, top, current, &entries, made)
-        else {
-            return Watched::Refused(Refusal::MatchFails);
-        };
-        made = enter(&mut entries, made, op, top);
-        at = next;
-        top = place;
-        current = terms;
-        left -= 1;
+        here = step(code, subject, &mut entries, here)?;
     }
-    Watched::Counts(current as u32, made as u32, 0, (top / 2) as u32)
+    Ok(Counts {
+        current: here.current as u32,
+        entries: here.made as u32,
+        finished: 0,
+        node: (here.top / 2) as u32,
+    })
 }

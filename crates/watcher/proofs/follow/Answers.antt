@@ -1,48 +1,40 @@
-use mathlib.Core.Path.{refl}
-use native.Mathlib.Omega.{arith}
-use Rattle.matcher.proofs.Opcodes.{top_low, enters}
-use Rattle.watcher.proofs.Following.{following_from, following_refused, following_next, following_stopped, counted_from, following_built}
+use native.Mathlib.Nat.{sub-zero}
 use borrow.Author.Rules.{rules}
+use Rattle.std.proofs.Common.{refl, ap, ◌∙◌, arith, Err}
+use Rattle.std.proofs.lemmas.Result.{err_from_is_err_and}
+use Rattle.matcher.proofs.Opcodes.{top_low}
+use Rattle.watcher.proofs.Following.{following_from, following_refused, following_next, following_stopped, counted_from, following_built}
 use Rattle.watcher.proofs.follow.Goals as goal
 
-pub loop-left-init : goal.loop-left-init
-loop-left-init c = following_from _ _ _ _ c.requires.0 c.requires.1 refl
+pub loop-done-init : goal.loop-done-init
+loop-done-init c = rw (sub-zero c.args.i) (following_from _ _ _ _ c.requires.0 c.requires.1 refl)
 
-pub bounds-code-at : goal.bounds-code-at
-bounds-code-at c = let b = c.loop-left.invariant.midway.inside in search rules
+pub bounds-code-here : goal.bounds-code-here
+bounds-code-here c = let b = c.loop-done.invariant.midway.inside in search rules
 
-pub build_part-finished-requires : goal.build_part-finished-requires
-build_part-finished-requires c = counted_from c.loop-left.invariant c.if-op-gt-EQI.true c.requires.0
+pub build_part-requires : goal.build_part-requires
+build_part-requires c = counted_from c.loop-done.invariant c.if-code-here-gt-EQI.true c.requires.0
 
-pub overflow_cast-result : goal.overflow_cast-result
-overflow_cast-result c = let b = c.loop-left.invariant.midway.few in search rules
+pub overflow_cast-result-then-code-here-gt-EQI : goal.overflow_cast-result-then-code-here-gt-EQI
+overflow_cast-result-then-code-here-gt-EQI c = let b = top_low c.loop-done.invariant.midway in search rules
 
-pub overflow_cast-result-then-op-gt-EQI : goal.overflow_cast-result-then-op-gt-EQI
-overflow_cast-result-then-op-gt-EQI c = let b = top_low c.loop-left.invariant.midway in search rules
-
-pub returns-then-op-gt-EQI : goal.returns-then-op-gt-EQI
-returns-then-op-gt-EQI c = following_built c.loop-left.invariant c.if-op-gt-EQI.true c.requires.0 c.requires.1 c.build_part-finished.ensures
+pub returns-then-code-here-gt-EQI : goal.returns-then-code-here-gt-EQI
+returns-then-code-here-gt-EQI c = following_built c.loop-done.invariant c.if-code-here-gt-EQI.true c.requires.0 c.requires.1 c.build_part.ensures
 
 pub step-requires : goal.step-requires
-step-requires c = (c.loop-left.invariant.midway, omega arith)
+step-requires c = (c.loop-done.invariant.midway, omega arith)
 
-pub returns-in_default : goal.returns-in_default
-returns-in_default c = following_refused c.loop-left.invariant c.step.ensures c.requires.0 c.requires.1 c.loop-left-test.true c.in_default.is
+pub returns-in_err-here : goal.returns-in_err-here
+returns-in_err-here c =
+    let f = following_refused c.loop-done.invariant c.step.ensures.steps c.requires.0 c.requires.1 (omega arith) c.in_err-here.was in
+    let q = err_from_is_err_and c.from_residual.result c.from_residual.ensures.1 in
+    q.1 ∙ ap Err (q.2 ∙ f.0) ∙ f.1
 
-pub enter-made-requires : goal.enter-made-requires
-enter-made-requires c = (enters c.loop-left.invariant.midway, let b = top_low c.loop-left.invariant.midway in omega arith)
-
-pub loop-left-preserved : goal.loop-left-preserved
-loop-left-preserved c = following_next c.loop-left.invariant c.step.ensures c.in-To.is c.loop-left-test.true c.enter-made.ensures.0 c.enter-made.ensures.1
-
-pub overflow_cast-result-2 : goal.overflow_cast-result-2
-overflow_cast-result-2 c = let b = c.loop-left.invariant.midway.many in search rules
-
-pub overflow_cast-result-3 : goal.overflow_cast-result-3
-overflow_cast-result-3 c = let b = c.loop-left.invariant.midway.few in search rules
+pub loop-done-preserved : goal.loop-done-preserved
+loop-done-preserved c = following_next c.loop-done.invariant c.step.ensures.steps c.in_ok-here.was (omega arith) (omega arith) c.step.ensures.enters
 
 pub overflow_cast-result-4 : goal.overflow_cast-result-4
-overflow_cast-result-4 c = let b = top_low c.loop-left.invariant.midway in search rules
+overflow_cast-result-4 c = let b = top_low c.loop-done.invariant.midway in search rules
 
 pub returns : goal.returns
-returns c = following_stopped c.loop-left.invariant c.requires.0 c.requires.1 (omega arith)
+returns c = following_stopped c.loop-done.invariant c.requires.0 c.requires.1 (omega arith)
