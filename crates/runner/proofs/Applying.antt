@@ -6,22 +6,17 @@ use mathlib.Core.Bool.{true}
 use mathlib.Core.List.{List, [], ◌++◌, append-nil}
 use lib.ListN.{length, take, drop, replicate, length-drop}
 use lib.Seq.{length-take-le, drop_at, drop-length}
+use Rattle.std.specs.Prelude.{Result, Ok, Err}
 use Rattle.documents.specs.declared.Refusal.{Refusal}
-use Rattle.documents.specs.declared.Refusal.TheVariants.{MatchFails}
 use Rattle.documents.specs.Passing.{passes}
 use Rattle.documents.specs.Numbers.{Answer, answered, refused}
 use Rattle.documents.specs.Calls.{zeros, run_answer, runs, run_call}
 use Rattle.documents.proofs.Lists.{T_of}
-use Rattle.tables.specs.declared.accept.Sized.{Sized}
-use Rattle.tables.specs.declared.accept.Sized.TheVariants as sized
 use Rattle.tables.proofs.Accepted.{subject_there}
 use Rattle.safety.proofs.NeverStuck.{passing_obeys}
 use Rattle.survey.specs.Places.{Surveyed}
 use Rattle.matcher.specs.declared.Matched.{Matched}
-use Rattle.matcher.specs.declared.Matched.TheVariants as matched
 use Rattle.matcher.specs.Ready.{ComesTo, Comes}
-use Rattle.runner.specs.declared.Ran.{Ran}
-use Rattle.runner.specs.declared.Ran.TheVariants as ran
 use Rattle.builder.specs.Weighing.{Begun, Building}
 use Rattle.builder.proofs.Readied.{program_of}
 use Rattle.runner.specs.Answers.{given, Applied}
@@ -40,7 +35,7 @@ call_same code subject work work' result e = go (runs code subject (length work'
     go (answered ws) = rw e
     go (refused w) = rw e
 
-module _ {code subject work work' result result' : List ℕ} {r : Ran} where
+module _ {code subject work work' result result' : List ℕ} {r : Result ℕ Refusal} where
   -- what is said of a call is said of it with other contents of the working table
   pub applied_before : {mid : List ℕ} → length mid ≡ length work → Applied code subject mid work' result result' r → Applied code subject work work' result result' r
   applied_before {mid} e a = record {
@@ -65,7 +60,7 @@ module _ (code subject work places : List ℕ) where
       drop_at (take 4096 work) (places ++ drop (length work - 4096) (drop 4096 work)) 4096 (length-take-le 4096 work (omega arith))
       ∙ (ap (λ (l : List ℕ). places ++ l) none ∙ append-nil places)
 
-  pub begun_from : {r : Sized} {n : ℕ} → 8192 ≤ length work → length surveyed ≡ length work → passes code ≡ true → Surveyed subject places r → r ≡ sized.Nodes n
+  pub begun_from : {r : Result ℕ Refusal} {n : ℕ} → 8192 ≤ length work → length surveyed ≡ length work → passes code ≡ true → Surveyed subject places r → r ≡ Ok n
       → Begun code subject surveyed
   begun_from {r} {n} h l p s e =
       let a = subject_there subject s.size e in
@@ -78,29 +73,29 @@ module _ (code subject work places : List ℕ) where
 
 -- ---- After the match part
 
-module _ {code subject work : List ℕ} (b : Begun code subject work) {entries : List ℕ} {r : Matched} (c : Comes code subject entries r) where
+module _ {code subject work : List ℕ} (b : Begun code subject work) {entries : List ℕ} {r : Result Matched Refusal} (c : Comes code subject entries r) where
   comes_to : ComesTo code subject entries (program_of code b.passed) r
   comes_to = c.means (program_of code b.passed) (passing_obeys code (T_of _ b.passed)).1
 
-  pub match_fails : {result : List ℕ} {w : Refusal} → r ≡ matched.Refused w → Applied code subject work work result result (ran.Refused MatchFails)
+  pub match_fails : {result : List ℕ} {w : Refusal} → r ≡ Err w → Applied code subject work work result result (Err w)
   match_fails {result} {w} e =
-      let k : ComesTo code subject entries (program_of code b.passed) (matched.Refused w) = rw e at comes_to in
-      record { long = refl; says = run_fails_lem code subject work result b.long b.passed b.accepted k.1 }
+      let k : ComesTo code subject entries (program_of code b.passed) (Err w) = rw e at comes_to in
+      record { long = refl; says = rw k.0 (run_fails_lem code subject work result b.long b.passed b.accepted k.1) }
 
-  module _ {at made words : ℕ} (e : r ≡ matched.Build at made words) where
-    pub entries_few : made ≤ 16
-    entries_few = let k : ComesTo code subject entries (program_of code b.passed) (matched.Build at made words) = rw e at comes_to in k.0.few
+  module _ {matched : Matched} (e : r ≡ Ok matched) where
+    pub entries_few : matched.entries ≤ 16
+    entries_few = let k : ComesTo code subject entries (program_of code b.passed) (Ok matched) = rw e at comes_to in k.0.few
 
     -- the part of the table that is lent has as many words as there are entries
-    pub entries_lent : length entries ≡ 16 → made ≡ length (take made entries)
-    entries_lent l = let w = entries_few in sym (length-take-le made entries (omega arith))
+    pub entries_lent : length entries ≡ 16 → matched.entries ≡ length (take matched.entries entries)
+    entries_lent l = let w = entries_few in sym (length-take-le matched.entries entries (omega arith))
 
-    pub building_from : length entries ≡ 16 → Building code at subject (take made entries) work
+    pub building_from : length entries ≡ 16 → Building code matched.build subject (take matched.entries entries) work
     building_from l = record {
       begun = b;
       table = entries;
-      made = made;
+      made = matched.entries;
       enough = l;
       these = refl;
-      ready = λ d p. let k : ComesTo code subject entries d (matched.Build at made words) = rw e at (c.means d p) in k.0;
+      ready = λ d p. let k : ComesTo code subject entries d (Ok matched) = rw e at (c.means d p) in k.0;
     }

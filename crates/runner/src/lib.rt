@@ -8,27 +8,19 @@ ghost use Rattle.builder.specs.Weighing.{Begun, Building};
 ghost use Rattle.runner.specs.Answers.{given, Applied};
 
 use builder::{Weighed, clear, put_before, room, weigh};
-use checker::{Checked, check};
+use checker::check;
 use documents::Refusal;
 use instructions::limit::MOST_ENTRIES;
 use links::NODES_AT;
-use matcher::{Matched, match_part};
+use matcher::match_part;
 use survey::survey;
-use tables::accept::Sized;
 
 // The words of a working table: those of code and of a subject's nodes, at most.
 pub const WORKING_WORDS: usize = 8192;
 
-// The words of the result, or a refusal.
-#[derive(Drop)]
-pub enum Ran {
-    Words(u32),
-    Refused(Refusal),
-}
-
-// The result's table at the front of the result table, or the first refusal of 16; 11; of the subject 2, 1, 3, 4; 12, 13, 14, 15, and no word of it
+// The result's table at the front of the result table, and its words; or the first refusal of 16; 11; of the subject 2, 1, 3, 4; 12, 13, 14, 15, and no word of it
 // changed. The working table is all zeros then, however long it was.
-pub fn run(code: &[u32], subject: &[u32], work: &mut [u32], res: &mut [u32]) -> Ran
+pub fn run(code: &[u32], subject: &[u32], work: &mut [u32], res: &mut [u32]) -> Result<u32, Refusal>
     ensures { given result work.new res.new ≡ run_call code.now subject.now work.old res.old }
 {
     let answer = apply(code, subject, work, res);
@@ -37,31 +29,32 @@ pub fn run(code: &[u32], subject: &[u32], work: &mut [u32], res: &mut [u32]) -> 
 }
 
 // All but that the working table is left as it is: 16, 11, and the subject's refusals.
-fn apply(code: &[u32], subject: &[u32], work: &mut [u32], res: &mut [u32]) -> Ran
+fn apply(code: &[u32], subject: &[u32], work: &mut [u32], res: &mut [u32]) -> Result<u32, Refusal>
     ensures { Applied code.now subject.now work.old work.new res.old res.new result }
 {
     if work.len() < WORKING_WORDS {
-        return Ran::Refused(Refusal::WorkingTableShort);
+        return Err(Refusal::WorkingTableShort);
     }
-    let Checked::Passes = check(code) else {
-        return Ran::Refused(Refusal::DoesNotPass);
-    };
-    let Sized::Refused(why) = survey(subject, &mut work[NODES_AT..]) else {
-        return rewrite(code, subject, work, res);
-    };
-    Ran::Refused(why)
+    check(code)?;
+    survey(subject, &mut work[NODES_AT..])?;
+    rewrite(code, subject, work, res)
 }
 
 // The match part, and 12.
-fn rewrite(code: &[u32], subject: &[u32], work: &mut [u32], res: &mut [u32]) -> Ran
+fn rewrite(code: &[u32], subject: &[u32], work: &mut [u32], res: &mut [u32]) -> Result<u32, Refusal>
     requires { Begun code.now subject.now work.old }
     ensures { Applied code.now subject.now work.old work.new res.old res.new result }
 {
     let mut entries = [0u32; MOST_ENTRIES];
-    let Matched::Build(at, made, _) = match_part(code, subject, &mut entries) else {
-        return Ran::Refused(Refusal::MatchFails);
-    };
-    build(code, at, subject, &entries[..made], work, res)
+    let matched = match_part(code, subject, &mut entries)?;
+    build(
+        code,
+        matched.build,
+        subject,
+        &entries[..matched.entries],
+        work,
+        res,
+    )
 }
 
 // The build part from its place on: 13, 14, 15, each over the whole result.
@@ -72,17 +65,12 @@ fn build(
     entries: &[u32],
     work: &mut [u32],
     res: &mut [u32],
-) -> Ran
+) -> Result<u32, Refusal>
     requires { Building code.now at subject.now entries.now work.old }
     ensures { Applied code.now subject.now work.old work.new res.old res.new result }
 {
     let most = room(res.len());
-    let weighed = weigh(code, at, subject, entries, work, most, 1);
-    match weighed {
-        Weighed::Refused(why) => Ran::Refused(why),
-        Weighed::Of(nodes, root) => {
-            put_before(code, subject, entries, work, res, root, 2 * nodes);
-            Ran::Words((2 * nodes) as u32)
-        }
-    }
+    let Weighed { nodes, root } = weigh(code, at, subject, entries, work, most, 1)?;
+    put_before(code, subject, entries, work, res, root, 2 * nodes);
+    Ok((2 * nodes) as u32)
 }
