@@ -1,30 +1,11 @@
 -- Words that are copied into a table: those that were copied, and before them what stood there. So the redex is set aside, and what was behind it moved.
 use mathlib.Core.Path.{◌≡◌, refl, sym, ap, ◌∙◌}
-use Prim.Native.Nat.{ℕ, zero, suc, ◌+◌, ◌-◌, ◌≤◌, ◌<◌}
-use native.Mathlib.Numerals.{add-one}
+use Prim.Native.Nat.{ℕ, zero, suc, ◌+◌, ◌-◌, ◌≤◌}
 use native.Mathlib.Omega.{arith}
 use mathlib.Core.List.{List, [], ◌∷◌, ◌++◌, append_assoc}
-use lib.ListN.{length, take, drop, get_or, set, length-take, length-drop}
-use lib.Seq.{length-take-le, take-suc, take-length, take-take, take-append-le, take-nil, drop-cons, drop-drop, drop_at, drop-append-le, append_snoc, set_at}
+use lib.ListN.{length, take, drop, length-append, length-take, length-drop}
+use lib.Seq.{length-take-le, take-take, take-append-le, take-nil, drop-drop, drop_at, drop-append-le}
 use Rattle.rewriter.specs.Replaces.{SettingAside, SetAside}
-
--- ---- One word after the other
-
--- a turn copies one word more
-pub copied_more : (part table : List ℕ) {table' : List ℕ} (i : ℕ) → length part ≤ length table → i < length part → table' ≡ take i part ++ drop i table
-    → set table' i (get_or part i 0) ≡ take (i + 1) part ++ drop (i + 1) table
-copied_more part table i k h e =
-    let j : i < length table = omega arith in
-    rw (e, add-one, drop-cons table i 0)
-    (set_at (take i part) (get_or table i 0) (drop (suc i) table) (get_or part i 0) i (length-take-le i part (omega arith))
-    ∙ sym (append_snoc (take i part) (get_or part i 0) (drop (suc i) table))
-    ∙ ap (λ (l : List ℕ). l ++ drop (suc i) table) (sym (take-suc part i 0 h)))
-
-pub copied_all : (part table : List ℕ) {table' : List ℕ} (i : ℕ) → table' ≡ take i part ++ drop i table → i ≤ length part → length part ≤ i
-    → table' ≡ part ++ drop (length part) table
-copied_all part table i e h k =
-    let q : i ≡ length part = omega arith in
-    e ∙ rw (q, take-length part) refl
 
 -- ---- Parts of parts
 
@@ -51,6 +32,12 @@ pub record Put (at : ℕ) (part d e : List ℕ) : Type 0 where
 pub put_there : (at : ℕ) (part d more rest : List ℕ) {t : List ℕ} → at ≤ length d → t ≡ part ++ more → Put at part d (take at d ++ (t ++ rest))
 put_there at part d more rest h e =
     record { inside = h; rest = more ++ rest; is = ap (λ (l : List ℕ). take at d ++ l) (ap (λ (l : List ℕ). l ++ rest) e ∙ append_assoc part more rest) }
+
+-- a part that was written to leaves the table its length
+pub put_length : (at n : ℕ) (d t : List ℕ) → at + n ≡ length d → length t ≡ length (take n (drop at d)) → length (take at d ++ (t ++ drop n (drop at d))) ≡ length d
+put_length at n d t h e =
+    let k : length t ≡ n = e ∙ length-take-le n (drop at d) (rw length-drop (omega arith)) in
+    rw (length-append, length-append, length-take-le at d (omega arith), length-drop, length-drop) (omega arith)
 
 module _ {at : ℕ} {part d e : List ℕ} (p : Put at part d e) where
   put_from : drop at e ≡ part ++ p.rest

@@ -22,11 +22,10 @@ use Rattle.documents.proofs.Lists.{every_append}
 use Rattle.rewriting.specs.Replacing.{replace}
 use Rattle.rewriting.proofs.Splicing.{Within, replaced_result, replaced_table, room_left}
 use Rattle.builder.specs.declared.Weighed.{Weighed}
-use Rattle.builder.specs.declared.Weighed.TheVariants as weighed
+use Rattle.std.specs.Prelude.{Result, Ok, Err}
 use Rattle.builder.specs.Weighing.{weighed_for, WeighedAs}
 use Rattle.builder.proofs.Weighing.{weighed_small}
 use Rattle.rewriter.specs.declared.Redex.{Redex}
-use Rattle.rewriter.specs.declared.Replaced.TheVariants as replaced
 use Rattle.rewriter.specs.Replaces.{plan_in, redex_in, Replacing, room_for, WeighsRedex, exchanged, Exchanging, Exchanges, Replaces}
 use Rattle.rewriter.proofs.Weighed.{held, plan_words, node_ends, ends_within, redex_front}
 
@@ -86,24 +85,24 @@ module _ {code : List ℕ} {redex : Redex} {entries plan : List ℕ} {words most
 
   -- ---- As it was weighed
 
-  module _ {work₁ : List ℕ} {r : Weighed} (s : WeighsRedex code redex entries plan words most work work₁ r) where
+  module _ {work₁ : List ℕ} {r : Result Weighed Refusal} (s : WeighsRedex code redex entries plan words most work work₁ r) where
     -- the new term is what the rule makes of the old subterm
     makes : (old : Term) → subterm (plan_in plan words) redex.node ≡ some old → (c : Program) → program_in code ≡ some c → made (run c old) ≡ some s.term
     makes old e c g =
         let h : p.old ≡ old = some-injective _ _ (sym p.here ∙ e) in
         ap (λ (u : Term). made (run c u)) (sym (redex_front p ∙ h)) ∙ ap made (s.ends c g).1
 
-    pub refuses : {why : Refusal} → r ≡ weighed.Refused why → Replaces code redex entries plan plan words most work work₁ (replaced.Refused why)
-    refuses {why} e =
+    pub refuses : {why : Refusal} → r ≡ Err why → {new : ℕ} → Replaces code redex entries plan plan words new most work work₁ (Err why)
+    refuses {why} e {new} =
         let k : weighed_for (room_for most words redex) redex.level s.term ≡ refused why = rw e at s.says in
         record { table_stays = refl; work_stays = s.long; says = λ old i c g. (s.term, makes old i c g, result_is s.term ∙ rw k refl) }
 
-    module _ {n z : ℕ} (e : r ≡ weighed.Of n z) where
-      weight : WeighedAs code (redex_in plan redex) entries (take 8192 work₁) (room_for most words redex) redex.level s.term (weighed.Of n z)
+    module _ {m : Weighed} (e : r ≡ Ok m) where
+      weight : WeighedAs code (redex_in plan redex) entries (take 8192 work₁) (room_for most words redex) redex.level s.term (Ok m)
       weight = rw e at s.says
 
       -- the words of the next plan
-      pub next_fits : (redex.words ≤ words) × (words - redex.words + 2 * n ≤ 2 * most) × (2 * most ≤ 8192)
+      pub next_fits : (redex.words ≤ words) × (words - redex.words + 2 * m.nodes ≤ 2 * most) × (2 * most ≤ 8192)
       next_fits =
           let h = ends_within p in
           let a = plan_words p in
@@ -114,7 +113,7 @@ module _ {code : List ℕ} {redex : Redex} {entries plan : List ℕ} {words most
           let i = weighed_small (room_for most words redex) redex.level s.term (table_of s.term) weight.1 in
           (omega arith, omega arith, omega arith)
 
-      pub exchanging : Exchanging code redex entries plan words work₁ n z
+      pub exchanging : Exchanging code redex entries plan words work₁ m.nodes m.root
       exchanging = record {
         table_long = p.table_long;
         work_long = omega (arith, p.work_long, s.long);
@@ -126,8 +125,8 @@ module _ {code : List ℕ} {redex : Redex} {entries plan : List ℕ} {words most
         built = weight.2;
       }
 
-      pub replaces : {plan₁ work₂ : List ℕ} → Exchanges code redex entries plan plan₁ words work₁ work₂ n z
-          → Replaces code redex entries plan plan₁ words most work work₂ (replaced.Words (words - redex.words + 2 * n))
+      pub replaces : {plan₁ work₂ : List ℕ} → Exchanges code redex entries plan plan₁ words work₁ work₂ m.nodes m.root
+          → Replaces code redex entries plan plan₁ words (words - redex.words + 2 * m.nodes) most work work₂ (Ok tt)
       replaces x = record {
         table_stays = x.table_stays;
         work_stays = x.work_stays ∙ s.long;

@@ -23,6 +23,8 @@ use Rattle.rewriting.proofs.Contexts.{by-context, replace_plug, depth_at_plug, s
 use Rattle.rewriting.proofs.Splicing.{replaced_depth}
 use Rattle.matcher.specs.Ready.{Begins, Ready}
 use Rattle.matcher.proofs.Parts.{whole_length, begins_at, begins_cut, ready_cut}
+use Rattle.std.specs.Prelude.{Result}
+use Rattle.documents.specs.declared.Refusal.{Refusal}
 use Rattle.builder.specs.declared.Weighed.{Weighed}
 use Rattle.builder.specs.Weighing.{Building, Weighs}
 use Rattle.rewriter.specs.declared.Redex.{Redex}
@@ -138,7 +140,7 @@ module _ {code : List ℕ} {redex : Redex} {entries plan : List ℕ} {words most
           })
 
       -- what was weighed there is said of the whole working table
-      pub weighs_redex : (table rest : List ℕ) {r : Weighed} → length (table ++ rest) ≡ length work
+      pub weighs_redex : (table rest : List ℕ) {r : Result Weighed Refusal} → length (table ++ rest) ≡ length work
           → Weighs code lent entries (take 8192 noted) table (room_for most words redex) redex.level r
           → WeighsRedex code redex entries plan words most work (table ++ rest) r
       weighs_redex table rest {r} k s =

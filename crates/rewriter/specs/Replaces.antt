@@ -1,5 +1,5 @@
 -- One rewrite of a plan at a redex: what it relies on, and what stands in the plan's table afterwards. The plan is the front of a table.
-use Rattle.std.specs.Prelude.{◌≡◌, ℕ, ◌+◌, ◌-◌, ◌*◌, ◌/◌, ◌≤◌, true, List, ◌++◌, length, take, drop}
+use Rattle.std.specs.Prelude.{◌≡◌, ℕ, ◌+◌, ◌-◌, ◌*◌, ◌/◌, ◌≤◌, true, List, ◌++◌, length, take, drop, Result, Ok, Err}
 use Rattle.std.proofs.Math.Option.{some}
 use Rattle.documents.specs.Terms.{Term}
 use Rattle.documents.specs.Tables.{table_of, nodes, subterm}
@@ -13,8 +13,7 @@ use Rattle.matcher.specs.Ready.{Ready}
 use Rattle.builder.specs.Weighing.{Ends, Built, WeighedAs}
 use Rattle.builder.specs.declared.Weighed.{Weighed}
 use Rattle.rewriter.specs.declared.Redex.{Redex}
-use Rattle.rewriter.specs.declared.Replaced.{Replaced}
-use Rattle.rewriter.specs.declared.Replaced.TheVariants as replaced
+use Rattle.documents.specs.declared.Refusal.{Refusal}
 
 -- ---- The redex in its plan
 
@@ -50,7 +49,7 @@ pub record Replacing (code : List ℕ) (redex : Redex) (entries plan : List ℕ)
 abbrev pub room_for : ℕ → ℕ → Redex → ℕ
 room_for most words redex = most - (words - redex.words) / 2
 
-pub record WeighsRedex (code : List ℕ) (redex : Redex) (entries plan : List ℕ) (words most : ℕ) (work work' : List ℕ) (r : Weighed) : Type 0 where
+pub record WeighsRedex (code : List ℕ) (redex : Redex) (entries plan : List ℕ) (words most : ℕ) (work work' : List ℕ) (r : Result Weighed Refusal) : Type 0 where
   pub long : length work' ≡ length work
   pub term : Term
   pub ends : Ends code (redex_in plan redex) term
@@ -100,17 +99,17 @@ pub record Exchanges (code : List ℕ) (redex : Redex) (entries plan plan' : Lis
 
 -- ---- Replaced
 
-module _ (plan : List ℕ) (node words most : ℕ) (old : Term) (plan' : List ℕ) (c : Program) where
+module _ (plan : List ℕ) (node words most : ℕ) (old : Term) (plan' : List ℕ) (words' : ℕ) (c : Program) where
   -- what the rule makes of the old subterm stands in its place, in the next plan's table; or the next plan breaks a limit
-  abbrev pub ReplacedAs : Replaced → Type 0
-  ReplacedAs (replaced.Words k) =
+  abbrev pub ReplacedAs : Result (Unit {0}) Refusal → Type 0
+  ReplacedAs (Ok _) =
       (w : Term) × (made (run c old) ≡ some w)
       × (result_for (2 * most) (replace (plan_in plan words) node w) ≡ answered (table_of (replace (plan_in plan words) node w)))
-      × (take k plan' ≡ table_of (replace (plan_in plan words) node w)) × (k ≤ 2 * most)
-  ReplacedAs (replaced.Refused r) = (w : Term) × (made (run c old) ≡ some w) × (result_for (2 * most) (replace (plan_in plan words) node w) ≡ refused r)
+      × (take words' plan' ≡ table_of (replace (plan_in plan words) node w)) × (words' ≤ 2 * most)
+  ReplacedAs (Err r) = (w : Term) × (made (run c old) ≡ some w) × (result_for (2 * most) (replace (plan_in plan words) node w) ≡ refused r)
 
-pub record Replaces (code : List ℕ) (redex : Redex) (entries plan plan' : List ℕ) (words most : ℕ) (work work' : List ℕ) (r : Replaced) : Type 0 where
+pub record Replaces (code : List ℕ) (redex : Redex) (entries plan plan' : List ℕ) (words words' most : ℕ) (work work' : List ℕ) (r : Result (Unit {0}) Refusal) : Type 0 where
   pub table_stays : length plan' ≡ length plan
   pub work_stays : length work' ≡ length work
   pub says : (old : Term) → subterm (plan_in plan words) redex.node ≡ some old → (c : Program) → program_in code ≡ some c
-      → ReplacedAs plan redex.node words most old plan' c r
+      → ReplacedAs plan redex.node words most old plan' words' c r

@@ -13,7 +13,7 @@ use documents::Refusal;
 use links::NODES_AT;
 use survey::note;
 
-// The words of a plan.
+// The most words of a plan.
 pub const PLAN_WORDS: usize = 8192;
 
 // Where the copy begins in the working table: behind links and places.
@@ -31,35 +31,38 @@ pub struct Redex {
     pub entries: usize,
 }
 
-// The words of the next plan, or why there is none.
+// A plan: so many words at the front of a table of its own.
 #[derive(Drop)]
-pub enum Replaced {
-    Words(usize),
-    Refused(Refusal),
+pub struct Plan {
+    pub table: [u32; PLAN_WORDS],
+    pub words: usize,
+    ghost fits: { words ≤ 8192 },
 }
 
-// The plan, so many words at the front of its table, after a rewrite of a redex by a rule's code; or 13, 14, 15 of the whole next plan. `most` nodes are
-// allowed.
+impl Plan {
+    pub fn part(&self) -> &[u32]
+        ensures { result.now ≡ take self.now.words self.now.table }
+    {
+        &self.table[..self.words]
+    }
+}
+
+// The plan after a rewrite of a redex by a rule's code; or 13, 14, 15 of the whole next plan. `most` nodes are allowed.
 pub fn replace(
     code: &[u32],
     redex: Redex,
     entries: &[u32],
-    plan: &mut [u32],
-    words: usize,
+    plan: &mut Plan,
     most: usize,
     work: &mut [u32],
-) -> Replaced
-    requires { Replacing code.now redex entries.now plan.old words most work.old }
-    ensures { Replaces code.now redex entries.now plan.old plan.new words most work.old work.new result }
+) -> Result<(), Refusal>
+    requires { Replacing code.now redex entries.now plan.old.table plan.old.words most work.old }
+    ensures { Replaces code.now redex entries.now plan.old.table plan.new.table plan.old.words plan.new.words most work.old work.new result }
 {
-    let weighed = weigh_redex(code, redex, entries, plan, words, most, work);
-    match weighed {
-        Weighed::Refused(why) => Replaced::Refused(why),
-        Weighed::Of(nodes, root) => {
-            exchange(code, redex, entries, plan, words, work, nodes, root);
-            Replaced::Words(words - redex.words + 2 * nodes)
-        }
-    }
+    let weighed = weigh_redex(code, redex, entries, plan, most, work)?;
+    exchange(code, redex, entries, plan, work, weighed);
+    plan.words = plan.words - redex.words + 2 * weighed.nodes;
+    Ok(())
 }
 
 // What the rule makes, while the plan is as it was: 13, 14, 15, each over the whole next plan. All of the plan that is not the redex keeps them, and
@@ -68,22 +71,21 @@ fn weigh_redex(
     code: &[u32],
     redex: Redex,
     entries: &[u32],
-    plan: &[u32],
-    words: usize,
+    plan: &Plan,
     most: usize,
     work: &mut [u32],
-) -> Weighed
-    requires { Replacing code.now redex entries.now plan.now words most work.old }
-    ensures { WeighsRedex code.now redex entries.now plan.now words most work.old work.new result }
+) -> Result<Weighed, Refusal>
+    requires { Replacing code.now redex entries.now plan.now.table plan.now.words most work.old }
+    ensures { WeighsRedex code.now redex entries.now plan.now.table plan.now.words most work.old work.new result }
 {
     let first = 2 * redex.node;
     let end = first + redex.words;
-    note(&plan[first..end], &mut work[NODES_AT..ASIDE]);
-    let room = most - (words - redex.words) / 2;
+    note(&plan.table[first..end], &mut work[NODES_AT..ASIDE]);
+    let room = most - (plan.words - redex.words) / 2;
     weigh(
         code,
         redex.build,
-        &plan[first..end],
+        &plan.table[first..end],
         entries,
         &mut work[..ASIDE],
         room,
@@ -96,42 +98,43 @@ fn exchange(
     code: &[u32],
     redex: Redex,
     entries: &[u32],
-    plan: &mut [u32],
-    words: usize,
+    plan: &mut Plan,
     work: &mut [u32],
-    nodes: usize,
-    root: usize,
+    weighed: Weighed,
 )
-    requires { Exchanging code.now redex entries.now plan.old words work.old nodes root }
-    ensures { Exchanges code.now redex entries.now plan.old plan.new words work.old work.new nodes root }
+    requires { Exchanging code.now redex entries.now plan.old.table plan.old.words work.old weighed.nodes weighed.root }
+    ensures tables { Exchanges code.now redex entries.now plan.old.table plan.new.table plan.old.words work.old work.new weighed.nodes weighed.root }
+    ensures words { plan.new.words ≡ plan.old.words }
 {
     let first = 2 * redex.node;
-    let old = redex.words;
-    let next = first + 2 * nodes;
-    set_aside(plan, words, first, first + old, next, work);
-    put_in(code, old, entries, work, plan, root, next);
+    let next = first + 2 * weighed.nodes;
+    set_aside(plan, first, first + redex.words, next, work);
+    put_in(
+        code,
+        redex.words,
+        entries,
+        work,
+        &mut plan.table,
+        weighed.root,
+        next,
+    );
 }
 
 // The words from `first` to `end` of the plan, copied aside; and those behind them, put where the next plan has them, by way of the copy.
-fn set_aside(
-    plan: &mut [u32],
-    words: usize,
-    first: usize,
-    end: usize,
-    next: usize,
-    work: &mut [u32],
-)
-    requires { SettingAside plan.old work.old words first end next }
-    ensures { SetAside plan.old plan.new work.old work.new words first end next }
+fn set_aside(plan: &mut Plan, first: usize, end: usize, next: usize, work: &mut [u32])
+    requires { SettingAside plan.old.table work.old plan.old.words first end next }
+    ensures tables { SetAside plan.old.table plan.new.table work.old work.new plan.old.words first end next }
+    ensures words { plan.new.words ≡ plan.old.words }
 {
+    let words = plan.words;
     if end == next {
-        copy(&plan[first..end], &mut work[ASIDE..]);
+        copy(&plan.table[first..end], &mut work[ASIDE..]);
         return;
     }
-    copy(&plan[first..words], &mut work[ASIDE..]);
+    copy(&plan.table[first..words], &mut work[ASIDE..]);
     let behind = ASIDE + (end - first);
     let all = ASIDE + (words - first);
-    copy(&work[behind..all], &mut plan[next..]);
+    copy(&work[behind..all], &mut plan.table[next..]);
 }
 
 // The new words, before a place of the plan. The working table is lent to read alone, so that two parts of it can be.
@@ -164,9 +167,5 @@ pub fn copy(part: &[u32], table: &mut [u32])
     requires { length part.now ≤ length table.old }
     ensures { table.new ≡ part.now ++ drop (length part.now) table.old }
 {
-    let mut i: usize = 0;
-    while i < part.len() {
-        table[i] = part[i];
-        i += 1;
-    }
+    table[..part.len()].copy_from_slice(part);
 }
