@@ -1,26 +1,24 @@
--- Which metavariables have a row: those that are entered in a table are those of the term that it was made of; and how a walk asks for each.
+-- Which metavariables have a row: those that are entered in a table are those of the term that it was made of; and how `find` tells of each.
 use mathlib.Core.Path.{◌≡◌, refl, sym, ap, ap₂, ◌∙◌}
-use Prim.Native.Nat.{ℕ, suc, ◌+◌, ◌-◌, ◌%◌, ◌≤◌, ◌<◌}
+use Prim.Native.Nat.{ℕ, suc, ◌-◌, ◌%◌, ◌≤◌, ◌<◌}
 use native.Mathlib.Omega.{arith}
 use mathlib.Core.Bool.{Bool, true, false, ◌&&◌, ◌||◌, cond, or-false, or_assoc}
-use mathlib.Core.Option.{Option, none, some}
+use mathlib.Core.Option as Math
+use mathlib.Core.Option.{none, some}
+use Rattle.std.specs.Prelude.{Option}
+use Rattle.std.specs.Option.{is_some}
 use mathlib.Core.List.{List, [], ◌∷◌, ◌++◌}
 use lib.Dec.{eqb}
-use lib.ListN.{drop, get_or}
 use borrow.Author.Tests.{eqb-true, eqb-false, eq-eqb, ne_eqb}
-use Rattle.documents.specs.Terms.{Sort, Tm, Var, Sym, Meta, Abst, Nil, Cons, Term, Terms, len}
+use Rattle.documents.specs.Terms.{Sort, Tm, Var, Sym, Meta, Abst, Nil, Cons, Term, len}
 use Rattle.documents.specs.Rules.{metas, among, contains}
 use Rattle.documents.specs.Translation.{Row, row, Located, located, further, lookup, unvar, enter, update, symbol_table}
 use Rattle.documents.proofs.Lists.{T_of}
 use Rattle.kahrs.proofs.Places.{eqb_both}
-use Rattle.tables.specs.Parts.{terms, front, Begins}
-use Rattle.tables.proofs.Walks.{Walk, walk_from, walk_on, ended}
-use Rattle.tables.proofs.Sides.{metas_front, metas_here, metas_behind}
-use Rattle.tables.proofs.Fronts.{last_word}
-use Rattle.symbols.specs.declared.Found.TheVariants.{At, Nothing}
-use Rattle.symbols.specs.Rows.{rows_in, found_in}
+use Rattle.tables.specs.Nodes.{is_metavariable}
+use Rattle.tables.proofs.Nodes.{metavariable_range}
+use Rattle.symbols.specs.Rows.{found_in}
 use Rattle.symbols.specs.Entries.{is_found, all_found}
-use Rattle.symbols.proofs.Located.{is_found_lem, is_nothing}
 
 -- ---- Which have a row
 
@@ -31,7 +29,7 @@ eqb_sym a b = go (eqb b a) refl
     go true e = eq-eqb a b (sym (eqb-true b a e))
     go false e = ne_eqb a b (λ k. eqb-false b a e (sym k))
 
-found_first : (q : Bool) (r : Row) (o : Option Located) → is_found (cond q (some (located 0 r)) (further o)) ≡ is_found o || q
+found_first : (q : Bool) (r : Row) (o : Math.Option Located) → is_found (cond q (some (located 0 r)) (further o)) ≡ is_found o || q
 found_first true r none = refl
 found_first true r (some e) = refl
 found_first false r none = refl
@@ -41,17 +39,17 @@ found_enter : (z k z' k' n : ℕ) (l : List ℕ) (rows : List Row)
     → is_found (lookup z k (enter (lookup z' k' rows) (row z' k' n l) rows)) ≡ is_found (lookup z k rows) || (eqb z' z && eqb k' k)
 found_enter z k z' k' n l rows = go (lookup z' k' rows) refl
   where
-    same : (o : Option Located) (q : Bool) → (q ≡ true → is_found o ≡ true) → is_found o ≡ is_found o || q
+    same : (o : Math.Option Located) (q : Bool) → (q ≡ true → is_found o ≡ true) → is_found o ≡ is_found o || q
     same none true f = f refl
     same none false f = refl
     same (some e) q f = refl
 
-    go : (o : Option Located) → lookup z' k' rows ≡ o → is_found (lookup z k (enter o (row z' k' n l) rows)) ≡ is_found (lookup z k rows) || (eqb z' z && eqb k' k)
+    go : (o : Math.Option Located) → lookup z' k' rows ≡ o → is_found (lookup z k (enter o (row z' k' n l) rows)) ≡ is_found (lookup z k rows) || (eqb z' z && eqb k' k)
     go none e = rw (eqb_sym z z', eqb_sym k k') (found_first (eqb z' z && eqb k' k) (row z' k' n l) (lookup z k rows))
     go (some x) e =
         same (lookup z k rows) (eqb z' z && eqb k' k)
         (λ q. let b = eqb_both z' z k' k (T_of (eqb z' z && eqb k' k) q) in
-        ap (λ (o : Option Located). is_found o) (sym (ap₂ (λ (a c : ℕ). lookup a c rows) b.0 b.1) ∙ e))
+        ap (λ (o : Math.Option Located). is_found o) (sym (ap₂ (λ (a c : ℕ). lookup a c rows) b.0 b.1) ∙ e))
 
 among_append : (ps qs : List (ℕ × ℕ)) (m : ℕ × ℕ) → among (ps ++ qs) m ≡ among ps m || among qs m
 among_append [] qs m = refl
@@ -78,43 +76,16 @@ pub found_table : (l : Term) (ms : List (ℕ × ℕ)) → all_found (symbol_tabl
 found_table l [] = refl
 found_table l (m ∷ ms) = ap₂ (λ (a b : Bool). a && b) (found_update 0 l [] m) (found_table l ms)
 
--- ---- A walk that asks for each metavariable
+-- ---- Asking for a metavariable of a node
 
--- Whether those still owed have a row is what was asked of the subterm's.
-pub record Asking (part rows : List ℕ) (owed at : ℕ) : Type 0 where
-  pub walk : Walk part at owed
-  pub same : all_found (rows_in rows) (metas (terms owed (drop at part))) ≡ all_found (rows_in rows) (metas (front part))
-
-pub asking_from : {part : List ℕ} (rows : List ℕ) → Begins 1 part → Asking part rows 1 0
-asking_from {part} rows b = record { walk = walk_from b; same = ap (all_found (rows_in rows)) (metas_front b) }
-
-pub asking_ended : {part rows : List ℕ} {owed at : ℕ} → Asking part rows owed at → owed ≤ 0 → true ≡ all_found (rows_in rows) (metas (front part))
-asking_ended {rows = rows} a h = ap (λ (ts : Terms). all_found (rows_in rows) (metas ts)) (sym (ended a.walk h)) ∙ a.same
-
-module _ {part rows : List ℕ} {owed at : ℕ} (a : Asking part rows owed at) (h : 0 < owed) where
-  -- past a node that is no metavariable
-  pub asking_on : (131072 ≤ get_or part at 0 → get_or part at 0 < 196608 → ⊥) → Asking part rows (owed - 1 + get_or part (at + 1) 0) (at + 2)
-  asking_on o = record {
-    walk = walk_on a.walk h;
-    same = ap (all_found (rows_in rows)) (sym (metas_behind a.walk h o)) ∙ a.same;
-  }
-
-  module _ (lo : 131072 ≤ get_or part at 0) (ne : get_or part at 0 ≡ 196608 → ⊥) where
-    abbrev here : Option Located
-    here = lookup (get_or part at 0 - 131072) (get_or part (at + 1) 0) (rows_in rows)
-
-    abbrev others : Bool
-    others = all_found (rows_in rows) (metas (terms (owed - 1 + get_or part (at + 1) 0) (drop (at + 2) part)))
-
-    asked : (q : Bool) → is_found here ≡ q → q && others ≡ all_found (rows_in rows) (metas (front part))
-    asked q f =
-        let hi = last_word a.walk h in
-        let e : get_or part at 0 % 65536 ≡ get_or part at 0 - 131072 = omega arith in
-        sym (ap (all_found (rows_in rows)) (rw e at (metas_here a.walk h lo (omega arith))) ∙ ap (λ (q : Bool). q && others) f) ∙ a.same
-
-    -- past a metavariable that has a row
-    pub asking_found : {i : ℕ} → At i ≡ found_in here → Asking part rows (owed - 1 + get_or part (at + 1) 0) (at + 2)
-    asking_found {i} e = record { walk = walk_on a.walk h; same = asked true (is_found_lem here i e) }
-
-    pub asking_missing : Nothing ≡ found_in here → false ≡ all_found (rows_in rows) (metas (front part))
-    asking_missing e = asked false (ap is_found (is_nothing here e))
+-- whether it has a row is whether `find` gives a location
+pub asked : (w k : ℕ) {q : Bool} (rows : List Row) (r : Option ℕ) → is_metavariable w ≡ true → r ≡ found_in (lookup (w - 131072) k rows) → is_some r ≡ q
+    → is_found (lookup (w % 65536) k rows) ≡ q
+asked w k rows r m e h =
+    let b : (131072 ≤ w) × (w < 196608) = metavariable_range m in
+    let i : w % 65536 ≡ w - 131072 = omega arith in
+    rw i (go r (lookup (w - 131072) k rows) e ∙ h)
+  where
+    go : (r : Option ℕ) (o : Math.Option Located) → r ≡ found_in o → is_found o ≡ is_some r
+    go r none e = sym (ap is_some e)
+    go r (some (located l x)) e = sym (ap is_some e)

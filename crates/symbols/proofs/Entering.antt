@@ -6,12 +6,15 @@ use Prim.Native.Nat.{ℕ, zero, suc, ◌+◌, ◌-◌, ◌*◌, ◌/◌, ◌≤�
 use native.Mathlib.Numerals.{add-one}
 use native.Mathlib.Omega.{arith}
 use mathlib.Core.Bool.{Bool, true, false, cond}
-use mathlib.Core.Option.{Option, none, some}
+use mathlib.Core.Option as Math
+use mathlib.Core.Option.{none, some}
+use Rattle.std.specs.Prelude.{Option, Some, None}
 use mathlib.Core.List.{List, [], ◌∷◌}
 use lib.Dec.{leb}
 use lib.ListN.{length, drop, get_or, length-drop}
 use lib.Seq.{sets, drop-drop, get_or-drop, length-sets}
 use borrow.Author.Tests.{le-leb, lt-leb, leb-true, leb-false}
+use Rattle.std.proofs.lemmas.Option.{same_Some}
 use Rattle.documents.specs.Limits.{metavariable_limit}
 use Rattle.documents.specs.Terms.{Var, Sym, Meta, Abst, Nil, Cons, Term, Terms, len}
 use Rattle.documents.specs.Tables.{nodes}
@@ -27,38 +30,43 @@ use Rattle.tables.specs.Parts.{terms, front, Begins, word_count}
 use Rattle.tables.proofs.Parts.{join, Step, step, passed, front_term, words_fit, begins_less, from, from_drop}
 use Rattle.tables.proofs.Walks.{at_abstraction, ended, Walking, walking_from, walking_on, walking_term, walking_ended}
 use Rattle.tables.proofs.Fronts.{root, arguments_begin, argument_count, front_metavariable, front_abstraction}
-use Rattle.symbols.specs.declared.Found.TheVariants.{At, Nothing}
 use Rattle.symbols.specs.declared.Entered.{Entered}
-use Rattle.symbols.specs.declared.Entered.TheVariants.{Words, Full}
 use Rattle.symbols.specs.Rows.{rows_in, found_in}
-use Rattle.symbols.specs.Entries.{Table, Enterable, beginning, entered, Enters, is_found}
+use Rattle.symbols.specs.Entries.{Table, Enterable, beginning, some_entered, entered, Enters, is_found}
 use Rattle.symbols.proofs.Stored.{length_rows, row_written}
 use Rattle.symbols.proofs.Located.{is_nothing, is_found_lem}
 
 -- ---- What an answer says
 
+same_entered : (read place more r p m : ℕ) → some_entered read place more ≡ some_entered r p m → (read ≡ r) × (place ≡ p) × (more ≡ m)
+same_entered read place more r p m e =
+    let s = same_Some (record { read = read; first = place; words = more }) (record { read = r; first = p; words = m }) e in
+    (ap (λ (x : Entered). x.read) s, ap (λ (x : Entered). x.first) s, ap (λ (x : Entered). x.words) s)
+
 module _ (n : ℕ) (t : Term) (rows : List Row) where
-  pub entered_words : (read place more : ℕ) → Words read place more ≡ entered n t rows
+  pub entered_words : (read place more : ℕ) → some_entered read place more ≡ entered n t rows
       → (length (update n t rows) ≤ metavariable_limit) × (read ≡ word_count t) × (place ≡ beginning (update n t rows)) × (more ≡ left_words n t rows)
   unfolding entered
   entered_words read place more e = go (leb (length (update n t rows)) metavariable_limit) refl e
     where
       go : (q : Bool) → leb (length (update n t rows)) metavariable_limit ≡ q
-          → Words read place more ≡ cond q (Words (word_count t) (beginning (update n t rows)) (left_words n t rows)) Full
+          → some_entered read place more ≡ cond q (some_entered (word_count t) (beginning (update n t rows)) (left_words n t rows)) None
           → (length (update n t rows) ≤ metavariable_limit) × (read ≡ word_count t) × (place ≡ beginning (update n t rows)) × (more ≡ left_words n t rows)
-      go true q e = (leb-true (length (update n t rows)) metavariable_limit q, cc, cc, cc)
+      go true q e =
+          let s = same_entered read place more (word_count t) (beginning (update n t rows)) (left_words n t rows) e in
+          (leb-true (length (update n t rows)) metavariable_limit q, s.0, s.1, s.2)
       go false q e = never (cc)
 
-  pub entered_full : Full ≡ entered n t rows → metavariable_limit < length (update n t rows)
+  pub entered_full : None ≡ entered n t rows → metavariable_limit < length (update n t rows)
   unfolding entered
   entered_full e = go (leb (length (update n t rows)) metavariable_limit) refl e
     where
       go : (q : Bool) → leb (length (update n t rows)) metavariable_limit ≡ q
-          → Full ≡ cond q (Words (word_count t) (beginning (update n t rows)) (left_words n t rows)) Full → metavariable_limit < length (update n t rows)
+          → None ≡ cond q (some_entered (word_count t) (beginning (update n t rows)) (left_words n t rows)) None → metavariable_limit < length (update n t rows)
       go true q e = never (cc)
       go false q e = leb-false (length (update n t rows)) metavariable_limit q
 
-  is_full : (table : List ℕ) → metavariable_limit < length (update n t rows) → Enters n t rows table Full
+  is_full : (table : List ℕ) → metavariable_limit < length (update n t rows) → Enters n t rows table None
   unfolding entered
   is_full table h = record {
     answer = rw (lt-leb (length (update n t rows)) metavariable_limit h);
@@ -66,12 +74,12 @@ module _ (n : ℕ) (t : Term) (rows : List Row) where
   }
 
   is_words : (table : List ℕ) (read place more : ℕ) → length (update n t rows) ≤ metavariable_limit → rows_in (drop place table) ≡ update n t rows
-      → read ≡ word_count t → place ≡ beginning (update n t rows) → more ≡ left_words n t rows → Enters n t rows table (Words read place more)
+      → read ≡ word_count t → place ≡ beginning (update n t rows) → more ≡ left_words n t rows → Enters n t rows table (some_entered read place more)
   unfolding entered
   is_words table read place more fit e p b q = record { answer = rw (le-leb (length (update n t rows)) metavariable_limit fit, p, q, b); entries = λ h. rw (← b) e }
 
   is_entered : (table : List ℕ) (read place more : ℕ) → Table table place → rows_in (drop place table) ≡ update n t rows → read ≡ word_count t → more ≡ left_words n t rows
-      → Enters n t rows table (Words read place more)
+      → Enters n t rows table (some_entered read place more)
   is_entered table read place more s e p q =
       let l = length_rows (drop place table) in
       let d = length-drop place table in
@@ -160,7 +168,7 @@ module _ {part : List ℕ} {under : ℕ} {table : List ℕ} {first : ℕ} (g : E
   here = rows_in (drop first table)
 
   -- what was gone over has a node's words at least and is within the part; its code has at most 67 words a node
-  pub words_within : {left : List ℕ} {r : Entered} {read place more : ℕ} → Enters under (front part) here left r → r ≡ Words read place more
+  pub words_within : {left : List ℕ} {r : Option Entered} {read place more : ℕ} → Enters under (front part) here left r → r ≡ some_entered read place more
       → (2 ≤ read) × (read ≤ length part) × (more ≤ 17152)
   words_within {read = read} {place} {more} e f =
       let (fit, q, p, m) = entered_words under (front part) here read place more (sym f ∙ e.answer) in
@@ -190,13 +198,13 @@ module _ {part : List ℕ} {under : ℕ} {table : List ℕ} {first : ℕ} (g : E
       sound = g.sound;
     }
 
-    module _ {left : List ℕ} {r : Entered} (e : Enters (under + 1) body here left r) where
-      pub body_full : r ≡ Full → Enters under (front part) here left Full
+    module _ {left : List ℕ} {r : Option Entered} (e : Enters (under + 1) body here left r) where
+      pub body_full : r ≡ None → Enters under (front part) here left None
       body_full f =
           let k = entered_full (under + 1) body here (sym f ∙ e.answer) in
           rw is_abstraction (is_full under (Abst body) here left (rw (add-one under) at k))
 
-      pub body_entered : {read place more : ℕ} → r ≡ Words read place more → Enters under (front part) here left (Words (2 + read) place (1 + more))
+      pub body_entered : {read place more : ℕ} → r ≡ some_entered read place more → Enters under (front part) here left (some_entered (2 + read) place (1 + more))
       body_entered {read} {place} {more} f =
           let (fit, q, p, m) = entered_words (under + 1) body here read place more (sym f ∙ e.answer) in
           let o : rows_in (drop place left) ≡ update (under + 1) body here = rw p (e.entries fit) in
@@ -223,30 +231,30 @@ module _ {part : List ℕ} {under : ℕ} {table : List ℕ} {first : ℕ} (g : E
     pub arguments_variables : Begins count (from 2 part) × (are_vars (terms count (from 2 part)) ≡ true)
     arguments_variables = (rw from_drop (arguments_begin g.begins), rw (from_drop 2 part, met.arguments) (are_vars_vars met.list))
 
-    met_entries : (o : Option Located) → lookup name count here ≡ o → enter o (row name count under met.list) here ≡ update under (front part) here
+    met_entries : (o : Math.Option Located) → lookup name count here ≡ o → enter o (row name count under met.list) here ≡ update under (front part) here
     met_entries o q = rw (← q, met.term) (sym (meta_entries under name count met.list here met.count))
 
-    met_counts : (o : Option Located) → lookup name count here ≡ o → occurrence_words under count o ≡ left_words under (front part) here
+    met_counts : (o : Math.Option Located) → lookup name count here ≡ o → occurrence_words under count o ≡ left_words under (front part) here
     met_counts o q = rw (← q, met.term, len_vars met.list, met.count)
 
     -- one that has a row
-    pub later_entered : (l : ℕ) → At l ≡ found_in (lookup name count (rows_in (from first table)))
-        → Enters under (front part) here table (Words (2 + 2 * count) first (5 + 2 * count))
+    pub later_entered : (l : ℕ) → Some l ≡ found_in (lookup name count (rows_in (from first table)))
+        → Enters under (front part) here table (some_entered (2 + 2 * count) first (5 + 2 * count))
     later_entered l a = go (lookup name count here) refl (is_found_lem (lookup name count here) l (rw (from_drop first table) at a))
       where
-        go : (o : Option Located) → lookup name count here ≡ o → is_found o ≡ true
-            → Enters under (front part) here table (Words (2 + 2 * count) first (5 + 2 * count))
+        go : (o : Math.Option Located) → lookup name count here ≡ o → is_found o ≡ true
+            → Enters under (front part) here table (some_entered (2 + 2 * count) first (5 + 2 * count))
         go none q f = never (cc)
         go (some x) q f =
             is_entered under (front part) here table (2 + 2 * count) first (5 + 2 * count) g.sound (met_entries (some x) q) met.word_count_lem (met_counts (some x) q)
 
     -- one that has none
-    module _ (a : Nothing ≡ found_in (lookup name count (rows_in (from first table)))) where
+    module _ (a : None ≡ found_in (lookup name count (rows_in (from first table)))) where
       missing : lookup name count here ≡ none
       missing = is_nothing (lookup name count here) (rw (from_drop first table) at a)
 
       -- where there is no room for it
-      pub first_full : first ≡ 0 → Enters under (front part) here table Full
+      pub first_full : first ≡ 0 → Enters under (front part) here table None
       first_full z =
           let l = length_rows (drop first table) in
           let d = length-drop first table in
@@ -256,7 +264,7 @@ module _ {part : List ℕ} {under : ℕ} {table : List ℕ} {first : ℕ} (g : E
 
       -- where there is
       pub first_entered : (left : List ℕ) → (first ≡ 0 → ⊥) → left ≡ sets table (first - 11) (name ∷ count ∷ under ∷ unvar (terms count (from 2 part)))
-          → Enters under (front part) here left (Words (2 + 2 * count) (first - 11) (4 + (under - count)))
+          → Enters under (front part) here left (some_entered (2 + 2 * count) (first - 11) (4 + (under - count)))
       first_entered left z w =
           let r : 11 ≤ first = let p = g.sound.place in omega arith in
           let s = g.sound in
@@ -299,7 +307,7 @@ entering_from {part} {under} {table} {first} g =
     }
 
 pub entering_ended : {part : List ℕ} {under : ℕ} {rows : List Row} {table : List ℕ} {owed at first words : ℕ} → Entering part under rows table owed at first words → owed ≤ 0
-    → Enters under (front part) rows table (Words at first words)
+    → Enters under (front part) rows table (some_entered at first words)
 entering_ended {part} {under} {rows} {table} {owed} {at} {first} {words} e h =
     let n = ended e.walk.walk h in
     let u = rw n at e.entries in
@@ -361,15 +369,15 @@ module _ {part : List ℕ} {under : ℕ} {rows : List Row} {table : List ℕ} {o
   after_counts : words + (left_words under (front (from at part)) (rows_in (drop first table)) + left_words under behind after) ≡ left_words under (front part) rows
   after_counts = rw terms_are at e.counts
 
-  module _ {left : List ℕ} {r : Entered} (t : Enters under (front (from at part)) (rows_in (drop first table)) left r) where
-    pub term_full : r ≡ Full → Enters under (front part) rows left Full
+  module _ {left : List ℕ} {r : Option Entered} (t : Enters under (front (from at part)) (rows_in (drop first table)) left r) where
+    pub term_full : r ≡ None → Enters under (front part) rows left None
     term_full f =
         let k = entered_full under (front (from at part)) (rows_in (drop first table)) (sym f ∙ t.answer) in
         let g = length_update under behind after in
         let a : length (update under behind after) ≡ length (update under (front part) rows) = ap (λ (rs : List Row). length rs) after_entries in
         is_full under (front part) rows left (omega arith)
 
-    pub entering_term : {read place more : ℕ} → length left ≡ length table → r ≡ Words read place more
+    pub entering_term : {read place more : ℕ} → length left ≡ length table → r ≡ some_entered read place more
         → Entering part under rows left (owed - 1) (at + read) place (words + more)
     entering_term {read} {place} {more} s f =
         let (fit, w, p, m) = entered_words under (front (from at part)) (rows_in (drop first table)) read place more (sym f ∙ t.answer) in

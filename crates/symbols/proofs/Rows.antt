@@ -3,18 +3,18 @@ use mathlib.Core.Path.{◌≡◌, refl, sym, ap, ◌∙◌}
 use Prim.Native.Nat.{ℕ, zero, suc, ◌+◌, ◌*◌, ◌/◌, ◌≤◌, ◌<◌}
 use native.Mathlib.Omega.{arith}
 use mathlib.Core.Bool.{Bool, true, false, ◌&&◌, cond}
-use mathlib.Core.Option.{Option, none, some}
-use mathlib.Core.List.{List, [], ◌∷◌}
+use mathlib.Core.Option as Math
+use mathlib.Core.Option.{none, some}
+use Rattle.std.specs.Prelude.{Option, Some, None}
+use mathlib.Core.List.{List, [], ◌∷◌, ◌++◌}
 use lib.Dec.{eqb}
-use lib.ListN.{length, get_or, drop, length-drop}
-use lib.Seq.{drop-drop, get_or-drop}
+use lib.ListN.{length, get_or, drop, length-drop, length-append}
+use lib.Seq.{drop-drop, drop_at, get_or-drop}
 use borrow.Author.Tests.{eq-eqb}
 use Rattle.documents.specs.Translation.{Row, Located, located, further, lookup}
 use Rattle.documents.proofs.Lists.{never, T_of}
 use Rattle.kahrs.proofs.Places.{eqb_both}
 use Rattle.tables.proofs.Sides.{unequal}
-use Rattle.symbols.specs.declared.Found.{Found}
-use Rattle.symbols.specs.declared.Found.TheVariants.{At, Nothing}
 use Rattle.symbols.specs.Rows.{row_in, rows_from, rows_in, found_in}
 
 -- ---- A row, and the rows behind it
@@ -37,49 +37,54 @@ rows_ended ws at h =
 -- ---- Looking up
 
 -- a location behind m rows
-abbrev pub moved_by : ℕ → Option Located → Found
-moved_by m none = Nothing
-moved_by m (some (located l r)) = At (m + l)
+abbrev pub moved_by : ℕ → Math.Option Located → Option ℕ
+moved_by m none = None
+moved_by m (some (located l r)) = Some (m + l)
 
-moved_none : (o : Option Located) → moved_by 0 o ≡ found_in o
+moved_none : (o : Math.Option Located) → moved_by 0 o ≡ found_in o
 moved_none none = refl
 moved_none (some (located l r)) = let e : 0 + l ≡ l = omega arith in rw e
 
-moved_further : (m : ℕ) (o : Option Located) → moved_by m (further o) ≡ moved_by (m + 1) o
+moved_further : (m : ℕ) (o : Math.Option Located) → moved_by m (further o) ≡ moved_by (m + 1) o
 moved_further m none = refl
 moved_further m (some (located l r)) = let e : m + suc l ≡ m + 1 + l = omega arith in rw e
 
--- the rows from a place on are looked up, behind so many others
-pub record Seeking (rows : List ℕ) (z k location at : ℕ) : Type 0 where
-  pub found : moved_by location (lookup z k (rows_in (drop at rows))) ≡ found_in (lookup z k (rows_in rows))
-  pub places : location ≤ at
-  pub within : at ≤ length rows
+-- the rows of words that are left are looked up, behind so many others
+pub record Seeking (rows : List ℕ) (z k location : ℕ) (rest : List ℕ) : Type 0 where
+  pub found : moved_by location (lookup z k (rows_in rest)) ≡ found_in (lookup z k (rows_in rows))
 
-pub seeking_from : (rows : List ℕ) (z k : ℕ) → Seeking rows z k 0 0
-seeking_from rows z k = record { found = moved_none (lookup z k (rows_in rows)); places = omega arith; within = omega arith }
+pub seeking_from : (rows : List ℕ) (z k : ℕ) → Seeking rows z k 0 rows
+seeking_from rows z k = record { found = moved_none (lookup z k (rows_in rows)) }
 
-module _ {rows : List ℕ} {z k location at : ℕ} (s : Seeking rows z k location at) (h : at + 11 ≤ length rows) where
-  row_name : get_or (drop at rows) 0 0 ≡ get_or rows at 0
-  row_name = let e : at + 0 ≡ at = omega arith in get_or-drop at rows 0 0 ∙ ap (λ (i : ℕ). get_or rows i 0) e
+row_before : (x r : List ℕ) → length x ≡ 11 → rows_in (x ++ r) ≡ row_in (x ++ r) ∷ rows_in r
+row_before x r h =
+    let l = length-append x r in
+    rows_step (x ++ r) 0 (omega arith) ∙ ap (λ (ws : List ℕ). row_in (x ++ r) ∷ rows_in ws) (drop_at x r 11 h)
 
-  pub seeking_here : get_or rows at 0 ≡ z → get_or rows (at + 1) 0 ≡ k → At location ≡ found_in (lookup z k (rows_in rows))
+row_name : (x r : List ℕ) → length x ≡ 11 → get_or (x ++ r) 0 0 ≡ get_or x 0 0
+row_name [] r h = absurd (omega arith)
+row_name (a ∷ x) r h = refl
+
+row_count : (x r : List ℕ) → length x ≡ 11 → get_or (x ++ r) 1 0 ≡ get_or x 1 0
+row_count [] r h = absurd (omega arith)
+row_count (a ∷ []) r h = absurd (omega arith)
+row_count (a ∷ b ∷ x) r h = refl
+
+module _ {rows : List ℕ} {z k location : ℕ} (x r : List ℕ) (h : length x ≡ 11) (s : Seeking rows z k location (x ++ r)) where
+  pub seeking_here : get_or x 0 0 ≡ z → get_or x 1 0 ≡ k → Some location ≡ found_in (lookup z k (rows_in rows))
   seeking_here e f =
       let m : location + 0 ≡ location = omega arith in
-      let g = s.found in
-      rw (rows_step rows at h, row_name, get_or-drop at rows 1 0, e, f, eq-eqb z z refl, eq-eqb k k refl, m) at g
+      rw (row_before x r h, row_name x r h, row_count x r h, e, f, eq-eqb z z refl, eq-eqb k k refl, m) at s.found
 
-  pub seeking_on : (get_or rows at 0 ≡ z → get_or rows (at + 1) 0 ≡ k → ⊥) → Seeking rows z k (location + 1) (at + 11)
+  pub seeking_on : (get_or x 0 0 ≡ z → get_or x 1 0 ≡ k → ⊥) → Seeking rows z k (location + 1) r
   seeking_on o = record {
     found =
-        let g = s.found in
-        sym (moved_further location (lookup z k (rows_in (drop (at + 11) rows))))
-        ∙ rw (rows_step rows at h, row_name, get_or-drop at rows 1 0, unequal z (get_or rows at 0) k (get_or rows (at + 1) 0) (λ e f. o (sym e) (sym f))) at g;
-    places = let p = s.places in omega arith;
-    within = h;
+        sym (moved_further location (lookup z k (rows_in r)))
+        ∙ rw (row_before x r h, row_name x r h, row_count x r h, unequal z (get_or x 0 0) k (get_or x 1 0) (λ e f. o (sym e) (sym f))) at s.found;
   }
 
-pub seeking_ended : {rows : List ℕ} {z k location at : ℕ} → Seeking rows z k location at → length rows < at + 11 → Nothing ≡ found_in (lookup z k (rows_in rows))
-seeking_ended {rows} {z} {k} {location} {at} s h = let g = s.found in rw (rows_ended rows at h) at g
+pub seeking_ended : {rows : List ℕ} {z k location : ℕ} (r : List ℕ) → Seeking rows z k location r → length r < 11 → None ≡ found_in (lookup z k (rows_in rows))
+seeking_ended r s h = rw (rows_ended r 0 (omega arith)) at s.found
 
 -- ---- The row at a location
 
@@ -98,15 +103,15 @@ PlacedFrom rows at z k l r =
 abbrev hit : ℕ → ℕ → List ℕ → Bool
 hit z k ws = eqb z (get_or ws 0 0) && eqb k (get_or ws 1 0)
 
-abbrev row_or_further : Bool → Row → Option Located → Option Located
+abbrev row_or_further : Bool → Row → Math.Option Located → Math.Option Located
 row_or_further q x o = cond q (some (located 0 x)) (further o)
 
-is_first : (q : Bool) (x r : Row) (o : Option Located) → row_or_further q x o ≡ some (located 0 r) → (q ≡ true) × (x ≡ r)
+is_first : (q : Bool) (x r : Row) (o : Math.Option Located) → row_or_further q x o ≡ some (located 0 r) → (q ≡ true) × (x ≡ r)
 is_first true x r o e = (refl, cc)
 is_first false x r none e = never (cc)
 is_first false x r (some (located m y)) e = never (cc)
 
-is_behind : (q : Bool) (x r : Row) (o : Option Located) (m : ℕ) → row_or_further q x o ≡ some (located (suc m) r) → o ≡ some (located m r)
+is_behind : (q : Bool) (x r : Row) (o : Math.Option Located) (m : ℕ) → row_or_further q x o ≡ some (located (suc m) r) → o ≡ some (located m r)
 is_behind true x r o m e = never (cc)
 is_behind false x r none m e = never (cc)
 is_behind false x r (some (located i y)) m e = cc

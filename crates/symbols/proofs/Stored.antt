@@ -1,7 +1,6 @@
 -- A row that is written: it stands before the rows that begin behind it. And its arguments as they are written, a variable after the other.
 use mathlib.Core.Path.{◌≡◌, refl, sym, ap, ap₂, ◌∙◌}
-use Prim.Native.Nat.{ℕ, zero, suc, ◌+◌, ◌-◌, ◌/◌, ◌≤◌, ◌<◌}
-use native.Mathlib.Numerals.{add-one}
+use Prim.Native.Nat.{ℕ, zero, suc, ◌+◌, ◌-◌, ◌*◌, ◌/◌, ◌≤◌, ◌<◌}
 use native.Mathlib.Omega.{arith}
 use mathlib.Core.Bool.{true}
 use mathlib.Core.List.{List, [], ◌∷◌, ◌++◌, append_assoc}
@@ -52,34 +51,41 @@ row_written table at z k b l e lo h =
 
 -- ---- Its arguments
 
--- the first terms of a part were to be written from `at` on in the old words; those from a place on are still to be written in the new ones
-pub record Putting (part : List ℕ) (count : ℕ) (old : List ℕ) (at : ℕ) (new : List ℕ) (left from to : ℕ) : Type 0 where
-  pub walk : Walk part from left
-  pub variables : are_vars (terms left (drop from part)) ≡ true
-  pub rest : sets new to (unvar (terms left (drop from part))) ≡ sets old at (unvar (terms count part))
-  pub room : to + left ≤ length new
+-- the first terms of a part were to be written from `at` on in the old words; those behind i of them are still to be written in the new ones
+pub record Putting (part : List ℕ) (count : ℕ) (old : List ℕ) (at : ℕ) (new : List ℕ) (i : ℕ) : Type 0 where
+  pub walk : Walk part (2 * i) (count - i)
+  pub variables : are_vars (terms (count - i) (drop (2 * i) part)) ≡ true
+  pub rest : sets new (at + i) (unvar (terms (count - i) (drop (2 * i) part))) ≡ sets old at (unvar (terms count part))
+  pub room : at + count ≤ length new
   pub size : length new ≡ length old
 
 pub putting_from : {part : List ℕ} {count : ℕ} {old : List ℕ} {at : ℕ} → Begins count part → are_vars (terms count part) ≡ true → at + count ≤ length old
-    → Putting part count old at old count 0 at
-putting_from b v h = record { walk = walk_from b; variables = v; rest = refl; room = h; size = refl }
+    → Putting part count old at old 0
+putting_from {count = count} {at = at} b v h =
+    let e : count - 0 ≡ count = omega arith in
+    let f : at + 0 ≡ at = omega arith in
+    record { walk = rw e (walk_from b); variables = rw e v; rest = rw (e, f); room = h; size = refl }
 
-pub putting_on : {part : List ℕ} {count : ℕ} {old : List ℕ} {at : ℕ} {new : List ℕ} {left from to : ℕ} → Putting part count old at new left from to → 0 < left
-    → Putting part count old at (set new to (get_or part from 0)) (left - 1) (from + 2) (to + 1)
-putting_on {part} {count} {old} {at} {new} {left} {from} {to} p h =
-    let v = is_variable p.walk h p.variables in
-    let e = ap (λ (ts : Terms). sets new to (unvar ts)) (at_variable part from left p.walk.begins h v).terms_are in
+pub putting_on : {part : List ℕ} {count : ℕ} {old : List ℕ} {at : ℕ} {new : List ℕ} {i : ℕ} → Putting part count old at new i → i < count
+    → Putting part count old at (set new (at + i) (get_or part (2 * i) 0)) (i + 1)
+putting_on {part} {count} {old} {at} {new} {i} p h =
+    let q : 0 < count - i = omega arith in
+    let v = is_variable p.walk q p.variables in
+    let e = ap (λ (ts : Terms). sets new (at + i) (unvar ts)) (at_variable part (2 * i) (count - i) p.walk.begins q v).terms_are in
+    let f : count - (i + 1) ≡ count - i - 1 = omega arith in
+    let g : 2 * (i + 1) ≡ 2 * i + 2 = omega arith in
+    let k : at + (i + 1) ≡ suc (at + i) = omega arith in
     record {
-      walk = walk_variable p.walk h v;
-      variables = sym (variables_behind p.walk h v) ∙ p.variables;
-      rest = rw (add-one to) (sym e) ∙ p.rest;
+      walk = rw (f, g) (walk_variable p.walk q v);
+      variables = rw (f, g) (sym (variables_behind p.walk q v) ∙ p.variables);
+      rest = rw (f, g, k) (sym e) ∙ p.rest;
       room = let r = p.room in simp length-set (omega arith);
       size = simp length-set p.size;
     }
 
-pub putting_ended : {part : List ℕ} {count : ℕ} {old : List ℕ} {at : ℕ} {new : List ℕ} {left from to : ℕ} → Putting part count old at new left from to → left ≤ 0
+pub putting_ended : {part : List ℕ} {count : ℕ} {old : List ℕ} {at : ℕ} {new : List ℕ} {i : ℕ} → Putting part count old at new i → count ≤ i
     → new ≡ sets old at (unvar (terms count part))
-putting_ended {new = new} {to = to} p h = ap (λ (ts : Terms). sets new to (unvar ts)) (sym (ended p.walk h)) ∙ p.rest
+putting_ended {at = at} {new = new} {i = i} p h = ap (λ (ts : Terms). sets new (at + i) (unvar ts)) (sym (ended p.walk (omega arith))) ∙ p.rest
 
 -- three words, and words behind them
 pub four_sets : (table : List ℕ) (at z k b : ℕ) (l : List ℕ) → sets (set (set (set table at z) (at + 1) k) (at + 2) b) (at + 3) l ≡ sets table at (z ∷ k ∷ b ∷ l)

@@ -3,7 +3,9 @@
 use mathlib.Core.Path.{◌≡◌, refl, sym, ◌∙◌}
 use Prim.Native.Nat.{ℕ, suc, ◌≤◌, ◌<◌}
 use native.Mathlib.Omega.{arith}
-use mathlib.Core.Option.{Option, none, some}
+use mathlib.Core.Option as Math
+use mathlib.Core.Option.{none, some}
+use Rattle.std.specs.Prelude.{Option, None}
 use mathlib.Core.List.{List, []}
 use lib.ListN.{length, drop}
 use Rattle.documents.specs.Limits.{metavariable_limit}
@@ -13,9 +15,8 @@ use Rattle.kahrs.proofs.Simple.{Simple, update_arguments}
 use Rattle.compiled.specs.Length.{left_words}
 use Rattle.tables.specs.Parts.{word_count}
 use Rattle.symbols.specs.declared.Entered.{Entered}
-use Rattle.symbols.specs.declared.Entered.TheVariants.{Words, Full}
 use Rattle.symbols.specs.Rows.{rows_in, Low}
-use Rattle.symbols.specs.Entries.{Table, beginning, Enters}
+use Rattle.symbols.specs.Entries.{Table, beginning, some_entered, Enters}
 use Rattle.symbols.proofs.Rows.{rows_ended}
 use Rattle.symbols.proofs.Entering.{entered_words, entered_full}
 
@@ -35,14 +36,14 @@ pub record Made (l : Term) (table : List ℕ) (read place more : ℕ) : Type 0 w
   pub passed : read ≡ word_count l
   pub counts : more ≡ left_words 0 l []
 
-pub table_made : {l : Term} {new : List ℕ} {r : Entered} {read place more : ℕ} (old : List ℕ) → length old ≡ 176 → Enters 0 l (rows_in (drop 176 old)) new r
-    → r ≡ Words read place more → Made l new read place more
+pub table_made : {l : Term} {new : List ℕ} {r : Option Entered} {read place more : ℕ} (old : List ℕ) → length old ≡ 176 → Enters 0 l (rows_in (drop 176 old)) new r
+    → r ≡ some_entered read place more → Made l new read place more
 table_made {l} {new} {r} {read} {place} {more} old h e f =
     let g : Enters 0 l [] new r = rw (no_rows old h) at e in
     let (fit, q, p, m) = entered_words 0 l [] read place more (sym f ∙ g.answer) in
     record { entries = rw p (g.entries fit); few = fit; begins = p; passed = q; counts = m }
 
-pub table_full : {l : Term} {new : List ℕ} {r : Entered} (old : List ℕ) → length old ≡ 176 → Enters 0 l (rows_in (drop 176 old)) new r → r ≡ Full
+pub table_full : {l : Term} {new : List ℕ} {r : Option Entered} (old : List ℕ) → length old ≡ 176 → Enters 0 l (rows_in (drop 176 old)) new r → r ≡ None
     → metavariable_limit < length (symbol_table l)
 table_full {l} {new} {r} old h e f =
     let g : Enters 0 l [] new r = rw (no_rows old h) at e in
@@ -50,7 +51,7 @@ table_full {l} {new} {r} old h e f =
 
 -- ---- Low rows
 
-low_enter : (o : Option Located) (z k b : ℕ) (l : List ℕ) (rows : List Row) → b < 64 → Low rows → Low (enter o (row z k b l) rows)
+low_enter : (o : Math.Option Located) (z k b : ℕ) (l : List ℕ) (rows : List Row) → b < 64 → Low rows → Low (enter o (row z k b l) rows)
 low_enter none z k b l rows h p = (h, p)
 low_enter (some e) z k b l rows h p = p
 

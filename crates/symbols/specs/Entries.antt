@@ -1,6 +1,8 @@
 -- Entering the metavariables of a left side in the symbol table (004, section 5), and asking for those of a right side.
 use Rattle.std.specs.Prelude.{◌≡◌, ℕ, ◌-◌, ◌*◌, ◌%◌, ◌≤◌, ◌<◌, Bool, true, false, cond, List, leb, length, drop}
-use Rattle.std.proofs.Math.Option.{Option, none, some}
+use Rattle.std.specs.Prelude.{Option, Some, None}
+use Rattle.std.proofs.Math.Option as Math
+use Rattle.std.proofs.Math.Option.{none, some}
 use Rattle.documents.specs.Limits.{metavariable_limit}
 use Rattle.documents.specs.Lists.{every}
 use Rattle.documents.specs.Terms.{Term}
@@ -9,7 +11,6 @@ use Rattle.kahrs.proofs.Simple.{Simple}
 use Rattle.compiled.specs.Length.{left_words}
 use Rattle.tables.specs.Parts.{front, Begins, word_count}
 use Rattle.symbols.specs.declared.Entered.{Entered}
-use Rattle.symbols.specs.declared.Entered.TheVariants.{Words, Full}
 use Rattle.symbols.specs.Rows.{rows_in}
 
 -- The words of sixteen rows, of which those from a place on hold whole rows.
@@ -30,19 +31,23 @@ pub record Enterable (part : List ℕ) (under : ℕ) (table : List ℕ) (from : 
 abbrev pub beginning : List Row → ℕ
 beginning rows = 176 - 11 * length rows
 
+-- the words gone over, where the table begins, and the words of their code
+abbrev pub some_entered : ℕ → ℕ → ℕ → Option Entered
+some_entered read first words = Some (record { read = read; first = first; words = words })
+
 -- What entering the metavariables of a term under n abstractions answers: the term's words, the place where the table then begins, and the words of
 -- the term's code; unless the table would have more than sixteen rows.
-unfoldable pub entered : ℕ → Term → List Row → Entered
+unfoldable pub entered : ℕ → Term → List Row → Option Entered
 entered n t rows =
     let after = update n t rows in
-    cond (leb (length after) metavariable_limit) (Words (word_count t) (beginning after) (left_words n t rows)) Full
+    cond (leb (length after) metavariable_limit) (some_entered (word_count t) (beginning after) (left_words n t rows)) None
 
 -- The answer, and the table that was left: where there is room, it holds the term's metavariables too.
-pub record Enters (n : ℕ) (t : Term) (rows : List Row) (table : List ℕ) (r : Entered) : Type 0 where
+pub record Enters (n : ℕ) (t : Term) (rows : List Row) (table : List ℕ) (r : Option Entered) : Type 0 where
   pub answer : r ≡ entered n t rows
   pub entries : length (update n t rows) ≤ metavariable_limit → rows_in (drop (beginning (update n t rows)) table) ≡ update n t rows
 
-abbrev pub is_found : Option Located → Bool
+abbrev pub is_found : Math.Option Located → Bool
 is_found none = false
 is_found (some e) = true
 

@@ -1,9 +1,9 @@
 -- The symbol table as words (004, section 5): a row after the other, the last first occurrence first, so that a location is a place.
 use Rattle.std.specs.Prelude.{ℕ, zero, suc, ◌/◌, ◌<◌, List, [], ◌∷◌, length, get_or, take, drop}
-use Rattle.std.proofs.Math.Option.{Option, none, some}
+use Rattle.std.specs.Prelude.{Option, Some, None}
+use Rattle.std.proofs.Math.Option as Math
+use Rattle.std.proofs.Math.Option.{none, some}
 use Rattle.documents.specs.Translation.{Row, row, Located, located}
-use Rattle.symbols.specs.declared.Found.{Found}
-use Rattle.symbols.specs.declared.Found.TheVariants.{At, Nothing}
 
 -- the row that words begin with: name, argument count, abstractions above, arguments; there is room for eight of these
 abbrev pub row_in : List ℕ → Row
@@ -18,9 +18,9 @@ unfoldable pub rows_in : List ℕ → List Row
 rows_in ws = rows_from (length ws / 11) ws
 
 -- the location of a row that was looked up
-abbrev pub found_in : Option Located → Found
-found_in none = Nothing
-found_in (some (located l r)) = At l
+abbrev pub found_in : Math.Option Located → Option ℕ
+found_in none = None
+found_in (some (located l r)) = Some l
 
 -- No metavariable stands under more than 63 abstractions.
 abbrev pub Low : List Row → Type 0

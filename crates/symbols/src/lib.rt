@@ -12,11 +12,13 @@ ghost use Rattle.symbols.specs.Rows.{rows_in, found_in};
 ghost use Rattle.symbols.specs.Entries.{Enterable, Enters, all_found};
 
 use tables::node::{ABSTRACTION, FIRST_METAVARIABLE};
+use tables::walk::Nodes;
 
 // Distinct metavariables on the left.
 pub const MOST_METAVARIABLES: usize = 16;
 
 // A row: name, argument count, abstractions above, and room for eight arguments.
+// Kept (point 6): `find` and `all_found` here, `left_side` and `right_side` of generator take words, however many; a slice of structs would be narrower.
 pub const ROW_WORDS: usize = 11;
 
 pub const COUNT: usize = 1;
@@ -29,34 +31,23 @@ pub const ARGUMENTS: usize = 3;
 pub const TABLE_WORDS: usize = MOST_METAVARIABLES * ROW_WORDS;
 
 // A metavariable's location.
-#[derive(Drop)]
-pub enum Found {
-    At(usize),
-    Nothing,
-}
-
-pub fn find(rows: &[u32], name: u32, count: u32) -> Found
+pub fn find(rows: &[u32], name: u32, count: u32) -> Option<usize>
     ensures { result ≡ found_in (lookup name count (rows_in rows.now)) }
 {
-    let mut location: usize = 0;
-    let mut at: usize = 0;
-    while ROW_WORDS <= rows.len() - at {
-        if rows[at] == name {
-            if rows[at + COUNT] == count {
-                return Found::At(location);
-            }
+    for (location, row) in rows.chunks_exact(ROW_WORDS).enumerate() {
+        if row[0] == name && row[COUNT] == count {
+            return Some(location);
         }
-        location += 1;
-        at += ROW_WORDS;
     }
-    Found::Nothing
+    None
 }
 
 // The words of the subterm that was gone over, the place where the table begins now, and the words of the subterm's code.
-#[derive(Drop)]
-pub enum Entered {
-    Words(usize, usize, usize),
-    Full,
+#[derive(Clone, Copy)]
+pub struct Entered {
+    pub read: usize,
+    pub first: usize,
+    pub words: usize,
 }
 
 // Words of a variable's code, EQVAR, index, NEXT; and of a symbol's, IS, name, count.
@@ -71,66 +62,73 @@ const FIRST_WORDS: usize = 4;
 // Of a later occurrence's code, but for the pairs: EQI, entry, d + 64, count, NEXT.
 const LATER_WORDS: usize = 5;
 
-// Enters the metavariables of a left side's subterm, under so many abstractions, in a table that begins at a place.
+// Enters the metavariables of a left side's subterm, under so many abstractions, in a table that begins at a place, if there is room for them.
 #[cycle(enter_all_enter_term)]
-pub fn enter_all(part: &[u32], under: u32, table: &mut [u32], from: usize) -> Entered
+pub fn enter_all(part: &[u32], under: u32, table: &mut [u32], from: usize) -> Option<Entered>
     requires { Enterable part.now under table.old from }
     ensures { Enters under (front part.now) (rows_in (drop from table.old)) table.new result }
 {
+    // Kept (point 3): where the next term begins, the call says that went over the one before; `Nodes` would go into it.
     let mut owed: usize = 1;
-    let mut at: usize = 0;
+    let mut read: usize = 0;
     let mut first = from;
     let mut words: usize = 0;
     while 0 < owed {
-        if part[at] < FIRST_METAVARIABLE {
-            owed = owed - 1 + part[at + 1] as usize;
-            at += 2;
+        if part[read] < FIRST_METAVARIABLE {
+            owed = owed - 1 + part[read + 1] as usize;
+            read += 2;
             words += PLAIN_WORDS;
             continue;
         }
-        let Entered::Words(read, place, more) = enter_term(&part[at..], under, table, first) else {
-            return Entered::Full;
-        };
+        let term = enter_term(&part[read..], under, table, first)?;
         owed -= 1;
-        at += read;
-        first = place;
-        words += more;
+        read += term.read;
+        first = term.first;
+        words += term.words;
     }
-    Entered::Words(at, first, words)
+    Some(Entered { read, first, words })
 }
 
 // An abstraction or a metavariable.
 #[cycle(enter_all_enter_term)]
-fn enter_term(part: &[u32], under: u32, table: &mut [u32], from: usize) -> Entered
+fn enter_term(part: &[u32], under: u32, table: &mut [u32], from: usize) -> Option<Entered>
     requires { Enterable part.now under table.old from × (131072 ≤ get_or part.now 0 0) }
     ensures { Enters under (front part.now) (rows_in (drop from table.old)) table.new result }
 {
-    if part[0] == ABSTRACTION {
-        let Entered::Words(read, place, more) = enter_all(&part[2..], under + 1, table, from) else {
-            return Entered::Full;
-        };
-        return Entered::Words(2 + read, place, ABSTRACTION_WORDS + more);
+    if part[0] != ABSTRACTION {
+        return enter_metavariable(part, under, table, from);
     }
-    enter_metavariable(part, under, table, from)
+    let body = enter_all(&part[2..], under + 1, table, from)?;
+    Some(Entered {
+        read: 2 + body.read,
+        first: body.first,
+        words: ABSTRACTION_WORDS + body.words,
+    })
 }
 
 // A metavariable: where it has no row yet, this is its first occurrence.
-fn enter_metavariable(part: &[u32], under: u32, table: &mut [u32], from: usize) -> Entered
+fn enter_metavariable(part: &[u32], under: u32, table: &mut [u32], from: usize) -> Option<Entered>
     requires { Enterable part.now under table.old from × (131072 ≤ get_or part.now 0 0) × (get_or part.now 0 0 < 196608) }
     ensures { Enters under (front part.now) (rows_in (drop from table.old)) table.new result }
 {
     let name = part[0] - FIRST_METAVARIABLE;
     let count = part[1];
     let read = 2 + 2 * count as usize;
-    let Found::At(_) = find(&table[from..], name, count) else {
-        if from == 0 {
-            return Entered::Full;
-        }
-        let place = from - ROW_WORDS;
-        enter(table, place, name, count, under, &part[2..]);
-        return Entered::Words(read, place, FIRST_WORDS + (under - count) as usize);
-    };
-    Entered::Words(read, from, LATER_WORDS + 2 * count as usize)
+    if find(&table[from..], name, count).is_some() {
+        let words = LATER_WORDS + 2 * count as usize;
+        return Some(Entered {
+            read,
+            first: from,
+            words,
+        });
+    }
+    if from == 0 {
+        return None;
+    }
+    let first = from - ROW_WORDS;
+    enter(table, first, name, count, under, &part[2..]);
+    let words = FIRST_WORDS + (under - count) as usize;
+    Some(Entered { read, first, words })
 }
 
 // Writes a row.
@@ -149,14 +147,8 @@ fn put_variables(part: &[u32], count: u32, out: &mut [u32], at: usize)
     requires { Begins count part.now × (are_vars (terms count part.now) ≡ true) × (at + count ≤ length out.old) }
     ensures { out.new ≡ sets out.old at (unvar (terms count part.now)) }
 {
-    let mut left = count;
-    let mut from: usize = 0;
-    let mut to = at;
-    while 0 < left {
-        out[to] = part[from];
-        left -= 1;
-        from += 2;
-        to += 1;
+    for i in 0..count as usize {
+        out[at + i] = part[2 * i];
     }
 }
 
@@ -165,22 +157,12 @@ pub fn all_found(part: &[u32], rows: &[u32]) -> bool
     requires { Begins 1 part.now }
     ensures { result ≡ all_found (rows_in rows.now) (metas (front part.now)) }
 {
-    let mut owed: usize = 1;
-    let mut at: usize = 0;
-    while 0 < owed {
-        let word = part[at];
-        let count = part[at + 1];
-        owed = owed - 1 + count as usize;
-        at += 2;
-        if word < FIRST_METAVARIABLE {
-            continue;
-        }
-        if word == ABSTRACTION {
-            continue;
-        }
-        let Found::At(_) = find(rows, word - FIRST_METAVARIABLE, count) else {
+    for node in Nodes::of(part) {
+        if node.is_metavariable()
+            && find(rows, node.word - FIRST_METAVARIABLE, node.count).is_none()
+        {
             return false;
-        };
+        }
     }
     true
 }

@@ -14,7 +14,7 @@ abbrev pub decreases-enter_term : goal.decreases-enter_term
 decreases-enter_term l = 2 * length l.part.now
 
 abbrev pub invariant-enter_all-loop-owed : goal.invariant-enter_all-loop-owed
-invariant-enter_all-loop-owed l = Entering l.part l.under (rows_in (drop l.from l.initial.table)) l.table l.owed l.at l.first l.words
+invariant-enter_all-loop-owed l = Entering l.part l.under (rows_in (drop l.from l.initial.table)) l.table l.owed l.read l.first l.words
 
 abbrev pub decreases-enter_all-loop-owed : goal.decreases-enter_all-loop-owed
-decreases-enter_all-loop-owed l = length l.part - l.at
+decreases-enter_all-loop-owed l = length l.part - l.read

@@ -1,33 +1,41 @@
-use mathlib.Core.Path.{sym, ◌∙◌}
+use mathlib.Core.Path.{sym, ap, ◌∙◌}
+use mathlib.Core.Bool.{not}
+use Prim.Native.Nat.{◌≤◌, ◌<◌}
 use native.Mathlib.Omega.{arith}
-use Rattle.tables.proofs.Walks.{walk_on}
-use Rattle.symbols.proofs.Asked.{asking_from, asking_on, asking_found, asking_missing, asking_ended}
-use borrow.Author.Rules.{rules}
+use Rattle.tables.proofs.Nodes.{metavariable_range, metas_first, metas_at, metas_past, owes_none}
+use Rattle.symbols.specs.Rows.{rows_in}
+use Rattle.symbols.specs.Entries.{all_found}
+use Rattle.symbols.proofs.Asked.{asked}
 use Rattle.symbols.proofs.all_found.Goals as goal
+use Rattle.symbols.proofs.all_found.Goals.{else-is_metavariable-via-then-is_metavariable+else-is_none, else-is_metavariable-via-else-is_metavariable}
 
-pub loop-owed-init : goal.loop-owed-init
-loop-owed-init c = asking_from c.args.rows.now c.requires
+pub loop-node-init : goal.loop-node-init
+loop-node-init c =
+    let s = c.args in
+    ap (all_found (rows_in s.rows.now)) (metas_first s.part.now c.into_iter-node-iterator.result c.requires (rw c.into_iter-node-iterator.ensures.into_iter_gives c.of-node-items.ensures))
 
-pub overflow_cast-owed : goal.overflow_cast-owed
-overflow_cast-owed c = let o = walk_on c.loop-owed.invariant.walk c.loop-owed-test.true in search rules
+pub overflow_sub-node : goal.overflow_sub-node
+overflow_sub-node c = let w = c.in-Some.node.word in let r : (131072 ≤ w) × (w < 196608) = metavariable_range (sym c.is_metavariable.ensures ∙ c.if-is_metavariable.true) in omega arith
 
-pub overflow_add-owed : goal.overflow_add-owed
-overflow_add-owed c = let o = walk_on c.loop-owed.invariant.walk c.loop-owed-test.true in search rules
+pub returns-then-is_none : goal.returns-then-is_none
+returns-then-is_none c =
+    let m = sym c.is_metavariable.ensures ∙ c.if-is_metavariable.true in
+    rw (
+      metas_at _ _ c.in-Some.node c.loop-node.iterator.0 c.in-Some.ensures.steps m,
+      asked _ _ (rows_in c.args.rows.now) c.find.result m c.find.ensures (c.is_none.ensures ∙ ap not c.if-is_none.true),
+    ) at c.loop-node.invariant
 
-pub overflow_add-at : goal.overflow_add-at
-overflow_add-at c = let o = walk_on c.loop-owed.invariant.walk c.loop-owed-test.true in search rules
-
-pub loop-owed-preserved-then-word-lt-FIRST_METAVARIABLE : goal.loop-owed-preserved-then-word-lt-FIRST_METAVARIABLE
-loop-owed-preserved-then-word-lt-FIRST_METAVARIABLE c = asking_on c.loop-owed.invariant c.loop-owed-test.true (λ lo hi. omega arith)
-
-pub loop-owed-preserved-then-word-eq-ABSTRACTION : goal.loop-owed-preserved-then-word-eq-ABSTRACTION
-loop-owed-preserved-then-word-eq-ABSTRACTION c = asking_on c.loop-owed.invariant c.loop-owed-test.true (λ lo hi. omega arith)
-
-pub loop-owed-preserved : goal.loop-owed-preserved
-loop-owed-preserved c = asking_found c.loop-owed.invariant c.loop-owed-test.true c.if-word-lt-FIRST_METAVARIABLE.false c.if-word-eq-ABSTRACTION.false (sym c.in-At.is ∙ c.find.ensures)
-
-pub returns-in_default : goal.returns-in_default
-returns-in_default c = asking_missing c.loop-owed.invariant c.loop-owed-test.true c.if-word-lt-FIRST_METAVARIABLE.false c.if-word-eq-ABSTRACTION.false (sym c.in_default.is ∙ c.find.ensures)
+pub loop-node-preserved : goal.loop-node-preserved
+loop-node-preserved c = elim c.else-is_metavariable.branch [
+  | else-is_metavariable-via-then-is_metavariable+else-is_none w ↦
+      let m = sym c.is_metavariable.ensures ∙ w.if-is_metavariable.true in
+      rw (
+        metas_at _ _ c.in-Some.node c.loop-node.iterator.0 c.in-Some.ensures.steps m,
+        asked _ _ (rows_in c.args.rows.now) w.find.result m w.find.ensures (w.is_none.ensures ∙ ap not w.if-is_none.false),
+      ) at c.loop-node.invariant
+  | else-is_metavariable-via-else-is_metavariable w ↦
+      rw (metas_past _ _ c.in-Some.node c.loop-node.iterator.0 c.in-Some.ensures.steps (sym c.is_metavariable.ensures ∙ w.if-is_metavariable.false)) at c.loop-node.invariant
+]
 
 pub returns : goal.returns
-returns c = asking_ended c.loop-owed.invariant c.loop-owed-test.false
+returns c = rw (owes_none _ _ c.loop-node.iterator.0 c.in-None.ensures.steps) at c.loop-node.invariant

@@ -2,6 +2,7 @@
 use mathlib.Core.Path.{sym, ◌∙◌}
 use native.Mathlib.Omega.{arith}
 use Rattle.tables.proofs.Fronts.{root_words}
+use Rattle.symbols.proofs.Located.{present, absent}
 use Rattle.symbols.proofs.Entering.{arguments_narrow, arguments_few, arguments_variables, first_full, first_entered, later_entered}
 use borrow.Author.Rules.{rules}
 use Rattle.symbols.proofs.enter_metavariable.Goals as goal
@@ -22,7 +23,7 @@ pub overflow_add-read : goal.overflow_add-read
 overflow_add-read c = let p = c.requires in let k = arguments_narrow p.0 p.1 p.2 in search rules
 
 pub returns-then-from-eq0 : goal.returns-then-from-eq0
-returns-then-from-eq0 c = let p = c.requires in first_full p.0 p.1 p.2 (sym c.in_default.is ∙ c.find.ensures) c.if-from-eq0.true
+returns-then-from-eq0 c = let p = c.requires in first_full p.0 p.1 p.2 (absent _ c.find.ensures (sym c.is_some.ensures ∙ c.if-is_some.false)) c.if-from-eq0.true
 
 pub slice_bounds-enter-count : goal.slice_bounds-enter-count
 slice_bounds-enter-count c = let r = root_words c.requires.0.begins in search rules
@@ -33,20 +34,20 @@ slice_bounds-enter-start c = let r = root_words c.requires.0.begins in search ru
 pub enter-requires : goal.enter-requires
 enter-requires c = let p = c.requires in let a = arguments_variables p.0 p.1 p.2 in (a.0, a.1, let k = arguments_narrow p.0 p.1 p.2 in let s = p.0.sound in omega arith)
 
-pub overflow_sub-result : goal.overflow_sub-result
-overflow_sub-result c = let p = c.requires in let k = arguments_few p.0 p.1 p.2 in search rules
-
-pub returns-in_default : goal.returns-in_default
-returns-in_default c = let p = c.requires in first_entered p.0 p.1 p.2 (sym c.in_default.is ∙ c.find.ensures) _ c.if-from-eq0.false c.enter.ensures
-
-pub overflow_cast-result-2 : goal.overflow_cast-result-2
-overflow_cast-result-2 c = let p = c.requires in let k = arguments_narrow p.0 p.1 p.2 in search rules
-
-pub overflow_mul-result : goal.overflow_mul-result
-overflow_mul-result c = let p = c.requires in let k = arguments_narrow p.0 p.1 p.2 in search rules
-
-pub overflow_add-result-2 : goal.overflow_add-result-2
-overflow_add-result-2 c = let p = c.requires in let k = arguments_narrow p.0 p.1 p.2 in search rules
+pub overflow_sub-words : goal.overflow_sub-words
+overflow_sub-words c = let p = c.requires in let k = arguments_few p.0 p.1 p.2 in search rules
 
 pub returns : goal.returns
-returns c = let p = c.requires in later_entered p.0 p.1 p.2 _ (sym c.in-At.is ∙ c.find.ensures)
+returns c = let p = c.requires in first_entered p.0 p.1 p.2 (absent _ c.find.ensures (sym c.is_some.ensures ∙ c.if-is_some.false)) _ c.if-from-eq0.false c.enter.ensures
+
+pub overflow_cast-words : goal.overflow_cast-words
+overflow_cast-words c = let p = c.requires in let k = arguments_narrow p.0 p.1 p.2 in search rules
+
+pub overflow_mul-words : goal.overflow_mul-words
+overflow_mul-words c = let p = c.requires in let k = arguments_narrow p.0 p.1 p.2 in search rules
+
+pub overflow_add-words : goal.overflow_add-words
+overflow_add-words c = let p = c.requires in let k = arguments_narrow p.0 p.1 p.2 in search rules
+
+pub returns-then-is_some : goal.returns-then-is_some
+returns-then-is_some c = let p = c.requires in let l = present _ c.find.ensures (sym c.is_some.ensures ∙ c.if-is_some.true) in later_entered p.0 p.1 p.2 l.0 l.1

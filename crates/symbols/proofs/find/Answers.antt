@@ -1,23 +1,43 @@
-use native.Mathlib.Omega.{arith}
+use mathlib.Core.Path.{refl, ◌∙◌}
+use Rattle.std.specs.Iterator.Adapters.{enumerate_source}
+use Rattle.std.specs.Slice.Iter.{chunks_exact_rest}
 use Rattle.symbols.proofs.Rows.{seeking_from, seeking_here, seeking_on, seeking_ended}
-use borrow.Author.Rules.{rules}
 use Rattle.symbols.proofs.find.Goals as goal
-use Rattle.symbols.proofs.find.Goals.{then-rows-at+else-rows-at-2, else-rows-at}
+use Rattle.symbols.proofs.find.Goals.{else-row-name-via-then-row-name+else-row-count, else-row-name-via-else-row-name}
 
-pub loop-at-init : goal.loop-at-init
-loop-at-init c = let s = c.args in seeking_from s.rows.now s.name s.count
+pub loop-location-init : goal.loop-location-init
+loop-location-init c =
+    let s = c.args in
+    rw (
+      c.into_iter-location-iterator.ensures.into_iter_gives,
+      c.enumerate-location-items.ensures.source,
+      c.enumerate-location-items.ensures.count,
+      c.chunks_exact.ensures.rest,
+      c.chunks_exact.ensures.size,
+    )
+    (refl, seeking_from s.rows.now s.name s.count)
 
-pub overflow_sub-rows : goal.overflow_sub-rows
-overflow_sub-rows c = let i = c.loop-at.invariant.within in omega arith
+pub returns-then-row-count : goal.returns-then-row-count
+returns-then-row-count c =
+    let l = c.loop-location.invariant in
+    let p = c.in-Some.ensures.steps in
+    let rest = chunks_exact_rest (enumerate_source c.next.new.self) in
+    rw p.1 (seeking_here c.in-Some.row.now rest (p.0.1.1 ∙ l.0) (rw p.0.1.0 at l.1) c.if-row-name.true c.if-row-count.true)
 
-pub returns-then-rows-at-2 : goal.returns-then-rows-at-2
-returns-then-rows-at-2 c = seeking_here c.loop-at.invariant (let i = c.loop-at.invariant.within in omega arith) c.if-rows-at.true c.if-rows-at-2.true
-
-pub overflow_add-location : goal.overflow_add-location
-overflow_add-location c = let i = c.loop-at.invariant.places in search rules
-
-pub loop-at-preserved : goal.loop-at-preserved
-loop-at-preserved c = seeking_on c.loop-at.invariant (let i = c.loop-at.invariant.within in omega arith) (λ e q. elim c.if-rows-at.branch [ then-rows-at+else-rows-at-2 w ↦ omega arith | else-rows-at w ↦ omega arith ])
+pub loop-location-preserved : goal.loop-location-preserved
+loop-location-preserved c =
+    let l = c.loop-location.invariant in
+    let p = c.in-Some.ensures.steps in
+    let rest = chunks_exact_rest (enumerate_source c.next.new.self) in (
+      p.0.0 ∙ l.0,
+      rw p.2 (seeking_on c.in-Some.row.now rest (p.0.1.1 ∙ l.0) (rw p.0.1.0 at l.1) (λ e f. elim c.else-row-name.branch [
+        | else-row-name-via-then-row-name+else-row-count w ↦ w.if-row-count.false f
+        | else-row-name-via-else-row-name w ↦ w.if-row-name.false e
+      ])),
+    )
 
 pub returns : goal.returns
-returns c = seeking_ended c.loop-at.invariant (omega arith)
+returns c =
+    let l = c.loop-location.invariant in
+    let p = c.in-None.ensures.steps in
+    seeking_ended _ l.1 (rw l.0 at p.0.1.0)

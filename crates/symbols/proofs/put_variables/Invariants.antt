@@ -3,8 +3,5 @@
 use Rattle.symbols.proofs.Stored.{Putting}
 use Rattle.symbols.proofs.put_variables.Given as goal
 
-abbrev pub invariant-loop-left : goal.invariant-loop-left
-invariant-loop-left l = Putting l.part l.count l.initial.out l.at l.out l.left l.from l.to
-
-abbrev pub decreases-loop-left : goal.decreases-loop-left
-decreases-loop-left l = l.left
+abbrev pub invariant-loop-i : goal.invariant-loop-i
+invariant-loop-i l = Putting l.part l.count l.initial.out l.at l.out l.i
