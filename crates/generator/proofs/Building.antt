@@ -19,7 +19,7 @@ use Rattle.tables.proofs.Parts.{begins_less, Passed, passed, no_terms, front_ter
 use Rattle.tables.proofs.Walks.{at_abstraction}
 use Rattle.tables.proofs.Fronts.{root_words, root, arguments_begin, argument_count, front_variable, front_symbol, front_metavariable, front_abstraction}
 use Rattle.symbols.specs.Rows.{rows_in, found_in}
-use Rattle.symbols.specs.declared.Found.TheVariants.{At, Nothing}
+use Rattle.std.specs.Prelude.{Some, None}
 use Rattle.symbols.proofs.Located.{Entry, entry}
 use Rattle.generator.specs.declared.right.Built.{Built}
 use Rattle.generator.specs.Written.{Fits, Wrote}
@@ -167,18 +167,18 @@ module _ {part : List ℕ} {under : ℕ} {rows : List ℕ} (g : Ready 1 part und
   code_metavariable = rw (front_metavariable g.begins m.lowest m.highest, argument_count g.begins)
 
   -- one without a row has no code
-  code_absent : Nothing ≡ found_in Look → right_code rows under (front part) ≡ []
+  code_absent : None ≡ found_in Look → right_code rows under (front part) ≡ []
   code_absent e = code_metavariable ∙ go Look e
     where
-      go : (o : Option Located) → Nothing ≡ found_in o → words (rhs_meta under (rhs (rows_in rows) under (terms (get_or part 1 0) (drop 2 part))) o) ≡ []
+      go : (o : Option Located) → None ≡ found_in o → words (rhs_meta under (rhs (rows_in rows) under (terms (get_or part 1 0) (drop 2 part))) o) ≡ []
       go none e = refl
       go (some (located l r)) e = never (cc)
 
-  pub builds_absent : {code : List ℕ} {at read : ℕ} → Nothing ≡ found_in Look → read ≡ word_count (front part)
+  pub builds_absent : {code : List ℕ} {at read : ℕ} → None ≡ found_in Look → read ≡ word_count (front part)
       → Builds (front part) (right_code rows under (front part)) code code at (record { read = read; next = at })
   builds_absent e q = record { read = q; wrote = rw (code_absent e) (record { code = refl; place = omega arith }) }
 
-  module _ {l : ℕ} (e : At l ≡ found_in Look) where
+  module _ {l : ℕ} (e : Some l ≡ found_in Look) where
     -- its row, and room for as many keys as it has arguments
     pub row_of : Entry rows (get_or part 0 0 - 131072) (get_or part 1 0) l
     row_of = entry rows (get_or part 0 0 - 131072) (get_or part 1 0) l g.low e

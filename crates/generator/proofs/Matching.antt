@@ -27,7 +27,7 @@ use Rattle.tables.proofs.Parts.{join, Step, step, begins_less, passed, words_fit
 use Rattle.tables.proofs.Walks.{at_variable, at_abstraction, Walk, walk_from, walk_variable, ended, Walking, walking_from, walking_on, walking_term, walking_ended}
 use Rattle.tables.proofs.Sides.{is_variable, variables_behind}
 use Rattle.tables.proofs.Fronts.{root_words, below_abstraction, root, arguments_begin, argument_count, front_metavariable, front_abstraction}
-use Rattle.symbols.specs.declared.Found.TheVariants.{At, Nothing}
+use Rattle.std.specs.Prelude.{Some, None}
 use Rattle.symbols.specs.Rows.{rows_in, found_in}
 use Rattle.symbols.proofs.Entering.{are_vars_vars, simple_join, nodes_vars}
 use Rattle.symbols.proofs.Located.{is_nothing, Entry, entry}
@@ -282,7 +282,7 @@ module _ {part rows code : List ℕ} {under sets at : ℕ} (a : Asked part rows 
   sets_are = rw (here.term, here.count)
 
   -- the table does not have it
-  pub left_none : Nothing ≡ found_in (sought part rows) → Done part rows code code under sets at (record { read = 2 + 2 * get_or part 1 0; sets = sets; next = at })
+  pub left_none : None ≡ found_in (sought part rows) → Done part rows code code under sets at (record { read = 2 + 2 * get_or part 1 0; sets = sets; next = at })
   left_none e =
       let n = is_nothing (sought part rows) e in
       record {
@@ -291,7 +291,7 @@ module _ {part rows code : List ℕ} {under sets at : ℕ} (a : Asked part rows 
         wrote = rw (code_is, n) (record { code = refl; place = omega arith });
       }
 
-  module _ {l : ℕ} (e : At l ≡ found_in (sought part rows)) where
+  module _ {l : ℕ} (e : Some l ≡ found_in (sought part rows)) where
     pub its_row : Entry rows (get_or part 0 0 - 131072) (get_or part 1 0) l
     its_row = entry rows (get_or part 0 0 - 131072) (get_or part 1 0) l a.low e
 

@@ -5,7 +5,8 @@ use native.Mathlib.Numerals.{add-one}
 use native.Mathlib.Omega.{arith}
 use mathlib.Core.List.{List, [], ◌∷◌, ◌++◌, append_assoc}
 use lib.ListN.{length, take, drop, get_or, length-append}
-use lib.Seq.{sets, length-sets, drop-cons}
+use lib.Seq.{sets, sets-eq, length-sets, drop-cons, drop-drop}
+use borrow.Rule.Slice.PartMut.{put_mid}
 use Rattle.documents.specs.Instructions.{End, ◌▸◌, Program, words}
 use Rattle.documents.specs.Translation.{◌⧺◌}
 use Rattle.documents.proofs.Lists.{sets_append}
@@ -65,9 +66,8 @@ take_left (suc n) l i h k =
     let f : i < length l = omega arith in
     rw (e, add-one i, drop-cons l i 0 f)
 
--- a word, and then the words behind it
-pub wrote_more : {old mid new : List ℕ} {at next last w : ℕ} {ws : List ℕ} → Wrote old mid at next (w ∷ []) → Wrote mid new next last ws → Wrote old new at last (w ∷ ws)
-wrote_more {old} {at = at} {w = w} {ws} o p = record {
-  code = p.code ∙ rw (o.code, o.place) (sym (sets_append old at (w ∷ []) ws));
-  place = let q = o.place in let r = p.place in omega arith;
-}
+-- words in the place of those from `at` on
+pub row_put : (code row : List ℕ) (at n : ℕ) → length row ≡ n → at + n ≤ length code → put_mid at (at + n - at) code row ≡ sets code at row
+row_put code row at n e h =
+    let k : at + n - at ≡ length row = omega arith in
+    rw (k, drop-drop (length row) at code, sets-eq row code at (omega arith), append_assoc (take at code) row (drop (at + length row) code))

@@ -7,15 +7,15 @@ ghost use Rattle.tables.specs.Parts.{terms};
 ghost use Rattle.generator.specs.Written.{Fits, Wrote};
 ghost use Rattle.generator.specs.Matching.{Asked, Done, Metavariable, Variables, plain_code, First, first_code, Later, later_code};
 
-use crate::put::{put_four, put_one, put_three, put_two};
+use crate::put::put;
 use documents::op::{CHECK, EQI, EQVAR, IS, ISABST, NEXT, SET};
-use symbols::{ABOVE, ARGUMENTS, Found, ROW_WORDS, find};
+use symbols::{ABOVE, ARGUMENTS, ROW_WORDS, find};
 use tables::compare::D_SHIFT;
 use tables::node::{ABSTRACTION, FIRST_METAVARIABLE, FIRST_SYMBOL};
 use tables::side::occurs_among;
 
 // The words of the subterm that was gone over, the SETs still to come behind it, and the place behind its code.
-#[derive(Drop)]
+#[derive(Clone, Copy)]
 pub struct Matched {
     pub read: usize,
     pub sets: usize,
@@ -36,6 +36,7 @@ pub fn left_side(
     requires { Asked part.now rows.now code.old under sets at }
     ensures { Done part.now rows.now code.old code.new under sets at result }
 {
+    // Kept (point 3): where the next term begins, the call says that went over the one before; `Nodes` would go into it.
     let mut owed: usize = 1;
     let mut read: usize = 0;
     let mut coming = sets;
@@ -68,9 +69,9 @@ fn left_plain(word: u32, count: u32, code: &mut [u32], at: usize) -> usize
     ensures { Wrote code.old code.new at result (plain_code word count) }
 {
     if word < FIRST_SYMBOL {
-        return put_three(code, at, EQVAR, word, NEXT);
+        return put(code, at, [EQVAR, word, NEXT]);
     }
-    put_three(code, at, IS, word - FIRST_SYMBOL, count)
+    put(code, at, [IS, word - FIRST_SYMBOL, count])
 }
 
 // An abstraction, ISABST and its body; or a metavariable.
@@ -89,7 +90,7 @@ fn left_term(
     if part[0] != ABSTRACTION {
         return left_metavariable(part, under, sets, rows, code, at);
     }
-    let inside = put_one(code, at, ISABST);
+    let inside = put(code, at, [ISABST]);
     let body = left_side(&part[2..], under + 1, sets, rows, code, inside);
     Matched {
         read: 2 + body.read,
@@ -112,7 +113,7 @@ fn left_metavariable(
 {
     let count = part[1];
     let read = 2 + 2 * count as usize;
-    let Found::At(location) = find(rows, part[0] - FIRST_METAVARIABLE, count) else {
+    let Some(location) = find(rows, part[0] - FIRST_METAVARIABLE, count) else {
         let next = at;
         return Matched { read, sets, next };
     };
@@ -132,9 +133,9 @@ fn first_occurrence(arguments: &[u32], count: u32, under: u32, code: &mut [u32],
     requires { First arguments.now count under × Fits code.old at (first_code arguments.now count under) }
     ensures { Wrote code.old code.new at result (first_code arguments.now count under) }
 {
-    let list = put_two(code, at, CHECK, under - count);
+    let list = put(code, at, [CHECK, under - count]);
     let behind = put_others(arguments, count, under, code, list);
-    put_two(code, behind, SET, NEXT)
+    put(code, behind, [SET, NEXT])
 }
 
 // The indices below a number that are not among the arguments, rising.
@@ -142,15 +143,11 @@ fn put_others(arguments: &[u32], count: u32, under: u32, code: &mut [u32], at: u
     requires { Variables count arguments.now × Fits code.old at (bvset under (terms count arguments.now)) }
     ensures { Wrote code.old code.new at result (bvset under (terms count arguments.now)) }
 {
-    let mut index: u32 = 0;
     let mut place = at;
-    while index < under {
-        if occurs_among(arguments, count, index) {
-            index += 1;
-            continue;
+    for index in 0..under {
+        if !occurs_among(arguments, count, index) {
+            place = put(code, place, [index]);
         }
-        place = put_one(code, place, index);
-        index += 1;
     }
     place
 }
@@ -168,9 +165,9 @@ fn later_occurrence(
     requires { Later row.now arguments.now count under × Fits code.old at (later_code row.now arguments.now count under entry) }
     ensures { Wrote code.old code.new at result (later_code row.now arguments.now count under entry) }
 {
-    let pairs = put_four(code, at, EQI, entry, under + D_SHIFT - row[ABOVE], count);
+    let pairs = put(code, at, [EQI, entry, under + D_SHIFT - row[ABOVE], count]);
     let behind = put_pairs(&row[ARGUMENTS..], arguments, count, code, pairs);
-    put_one(code, behind, NEXT)
+    put(code, behind, [NEXT])
 }
 
 // Old arguments paired with new ones, which are variables.
@@ -178,15 +175,9 @@ fn put_pairs(old: &[u32], new: &[u32], count: u32, code: &mut [u32], at: usize) 
     requires { Variables count new.now × (count ≤ length old.now) × Fits code.old at (pair_words (pairlists (take count old.now) (unvar (terms count new.now)))) }
     ensures { Wrote code.old code.new at result (pair_words (pairlists (take count old.now) (unvar (terms count new.now)))) }
 {
-    let mut left = count;
-    let mut i: usize = 0;
-    let mut read: usize = 0;
     let mut place = at;
-    while 0 < left {
-        place = put_two(code, place, old[i], new[read]);
-        left -= 1;
-        i += 1;
-        read += 2;
+    for i in 0..count as usize {
+        place = put(code, place, [old[i], new[2 * i]]);
     }
     place
 }

@@ -5,14 +5,14 @@ ghost use Rattle.generator.specs.Written.{Fits};
 ghost use Rattle.generator.specs.Matching.{Metavariable};
 ghost use Rattle.generator.specs.Building.{right_code, right_codes, right_bodies, Ready, Builds};
 
-use crate::put::{put_four, put_one, put_three, put_two};
+use crate::put::put;
 use documents::op::{ADBMAL, CELL, LAMBDA, PUSHI, PUSHVAR};
-use symbols::{ABOVE, ARGUMENTS, Found, ROW_WORDS};
+use symbols::{ABOVE, ARGUMENTS, ROW_WORDS, find};
 use tables::compare::D_SHIFT;
 use tables::node::{ABSTRACTION, FIRST_METAVARIABLE, FIRST_SYMBOL};
 
 // The words of what was gone over, and the place behind its code.
-#[derive(Drop)]
+#[derive(Clone, Copy)]
 pub struct Built {
     pub read: usize,
     pub next: usize,
@@ -29,22 +29,22 @@ pub fn right_side(part: &[u32], under: u32, rows: &[u32], code: &mut [u32], at: 
     if word < FIRST_SYMBOL {
         return Built {
             read: 2,
-            next: put_two(code, at, PUSHVAR, word),
+            next: put(code, at, [PUSHVAR, word]),
         };
     }
     if word < FIRST_METAVARIABLE {
         let arguments = right_terms(&part[2..], count, under, rows, code, at);
         return Built {
             read: 2 + arguments.read,
-            next: put_three(code, arguments.next, CELL, word - FIRST_SYMBOL, count),
+            next: put(code, arguments.next, [CELL, word - FIRST_SYMBOL, count]),
         };
     }
     if word == ABSTRACTION {
-        let inside = put_one(code, at, LAMBDA);
+        let inside = put(code, at, [LAMBDA]);
         let body = right_side(&part[2..], under + 1, rows, code, inside);
         return Built {
             read: 2 + body.read,
-            next: put_one(code, body.next, ADBMAL),
+            next: put(code, body.next, [ADBMAL]),
         };
     }
     right_metavariable(part, under, rows, code, at)
@@ -63,12 +63,10 @@ fn right_terms(
     requires { Ready count part.now under rows.now × Fits code.old at (right_codes rows.now under (terms count part.now)) }
     ensures { Builds (terms count part.now) (right_codes rows.now under (terms count part.now)) code.old code.new at result }
 {
-    let mut left = count;
     let mut read: usize = 0;
     let mut place = at;
-    while 0 < left {
+    for _ in 0..count {
         let term = right_side(&part[read..], under, rows, code, place);
-        left -= 1;
         read += term.read;
         place = term.next;
     }
@@ -82,21 +80,15 @@ fn right_metavariable(part: &[u32], under: u32, rows: &[u32], code: &mut [u32], 
     ensures { Builds (front part.now) (right_code rows.now under (front part.now)) code.old code.new at result }
 {
     let count = part[1];
-    let Found::At(location) = symbols::find(rows, part[0] - FIRST_METAVARIABLE, count) else {
+    let Some(location) = find(rows, part[0] - FIRST_METAVARIABLE, count) else {
         return Built {
             read: tables::pass::skip(part),
             next: at,
         };
     };
     let row = ROW_WORDS * location;
-    let first = put_four(
-        code,
-        at,
-        PUSHI,
-        location as u32,
-        under + D_SHIFT - rows[row + ABOVE],
-        count,
-    );
+    let shift = under + D_SHIFT - rows[row + ABOVE];
+    let first = put(code, at, [PUSHI, location as u32, shift, count]);
     let bodies = right_bodies(&part[2..], count, under, rows, row + ARGUMENTS, code, first);
     Built {
         read: 2 + bodies.read,
@@ -118,15 +110,11 @@ fn right_bodies(
     requires { Ready count part.now under rows.now × (keys + count ≤ length rows.now) × Fits code.old at (right_bodies rows.now under keys count (terms count part.now)) }
     ensures { Builds (terms count part.now) (right_bodies rows.now under keys count (terms count part.now)) code.old code.new at result }
 {
-    let mut left = count;
-    let mut key = keys;
     let mut read: usize = 0;
     let mut place = at;
-    while 0 < left {
+    for &key in &rows[keys..keys + count as usize] {
         let body = right_side(&part[read..], under, rows, code, place + 2);
-        put_two(code, place, rows[key], (body.next - (place + 2)) as u32);
-        left -= 1;
-        key += 1;
+        put(code, place, [key, (body.next - (place + 2)) as u32]);
         read += body.read;
         place = body.next;
     }

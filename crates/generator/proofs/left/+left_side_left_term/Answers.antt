@@ -1,5 +1,6 @@
 use Prim.Native.Nat.{◌+◌}
 use native.Mathlib.Omega.{arith}
+use lib.Dec.{lit<}
 use lib.ListN.{length-drop}
 use Rattle.tables.proofs.Parts.{from_drop}
 use Rattle.tables.proofs.Fronts.{root_words}
@@ -43,8 +44,8 @@ left_term-bounds-part-0 t c = let w = root_words c.requires.0.begins in search r
 pub left_term-left_metavariable-requires : goal.left_term-left_metavariable-requires
 left_term-left_metavariable-requires t c = (c.requires.0, is_metavariable c.requires.0.begins c.requires.1 c.if-part-ne-ABSTRACTION.true)
 
-pub left_term-put_one-inside-requires : goal.left_term-put_one-inside-requires
-left_term-put_one-inside-requires t c = abst_fits c.requires.0 c.if-part-ne-ABSTRACTION.false
+pub left_term-put-inside-requires : goal.left_term-put-inside-requires
+left_term-put-inside-requires t c = (lit< tt, abst_fits c.requires.0 c.if-part-ne-ABSTRACTION.false)
 
 pub left_term-slice_bounds-left_side-count : goal.left_term-slice_bounds-left_side-count
 left_term-slice_bounds-left_side-count t c = let w = root_words c.requires.0.begins in search rules
@@ -56,10 +57,10 @@ pub left_term-overflow_add-under : goal.left_term-overflow_add-under
 left_term-overflow_add-under t c = let w = body_low c.requires.0 c.if-part-ne-ABSTRACTION.false in search rules
 
 pub left_term-left_side-body-requires : goal.left_term-left_side-body-requires
-left_term-left_side-body-requires t c = let s = c.args in let w = root_words c.requires.0.begins in let d = length-drop 2 s.part.now in rw (from_drop 2 s.part.now) (omega arith, body_asked c.requires.0 c.if-part-ne-ABSTRACTION.false c.put_one-inside.ensures)
+left_term-left_side-body-requires t c = let s = c.args in let w = root_words c.requires.0.begins in let d = length-drop 2 s.part.now in rw (from_drop 2 s.part.now) (omega arith, body_asked c.requires.0 c.if-part-ne-ABSTRACTION.false c.put-inside.ensures)
 
 pub left_term-overflow_add-result : goal.left_term-overflow_add-result
-left_term-overflow_add-result t c = let w = body_read c.requires.0 c.if-part-ne-ABSTRACTION.false c.put_one-inside.ensures (rw (from_drop 2 c.args.part.now) at c.left_side-body.ensures) in search rules
+left_term-overflow_add-result t c = let w = body_read c.requires.0 c.if-part-ne-ABSTRACTION.false c.put-inside.ensures (rw (from_drop 2 c.args.part.now) at c.left_side-body.ensures) in search rules
 
 pub left_term-returns : goal.left_term-returns
-left_term-returns t c = body_done c.requires.0 c.if-part-ne-ABSTRACTION.false c.put_one-inside.ensures (rw (from_drop 2 c.args.part.now) at c.left_side-body.ensures)
+left_term-returns t c = body_done c.requires.0 c.if-part-ne-ABSTRACTION.false c.put-inside.ensures (rw (from_drop 2 c.args.part.now) at c.left_side-body.ensures)

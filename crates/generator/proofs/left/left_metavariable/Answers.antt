@@ -37,25 +37,25 @@ pub slice_bounds-first_occurrence-start : goal.slice_bounds-first_occurrence-sta
 slice_bounds-first_occurrence-start c = let h = here c.requires.0 c.requires.1 in search rules
 
 pub first_occurrence-next-requires : goal.first_occurrence-next-requires
-first_occurrence-next-requires c = subst (λ (p : List ℕ). First p (get_or c.args.part.now 1 0) c.args.under × Fits c.args.code.now c.args.at (first_code p (get_or c.args.part.now 1 0) c.args.under)) (sym (from_drop 2 c.args.part.now)) (left_first_fits c.requires.0 c.requires.1 (sym c.in-At.is ∙ c.find.ensures) c.if-location-sets.true)
+first_occurrence-next-requires c = subst (λ (p : List ℕ). First p (get_or c.args.part.now 1 0) c.args.under × Fits c.args.code.now c.args.at (first_code p (get_or c.args.part.now 1 0) c.args.under)) (sym (from_drop 2 c.args.part.now)) (left_first_fits c.requires.0 c.requires.1 (sym c.in-Some.is ∙ c.find.ensures) c.if-location-sets.true)
 
 pub returns-then-location-sets : goal.returns-then-location-sets
-returns-then-location-sets c = left_first c.requires.0 c.requires.1 (sym c.in-At.is ∙ c.find.ensures) c.if-location-sets.true (subst (λ (p : List ℕ). Wrote c.args.code.now c.first_occurrence-next.new.code c.args.at c.first_occurrence-next.result (first_code p (get_or c.args.part.now 1 0) c.args.under)) (from_drop 2 c.args.part.now) c.first_occurrence-next.ensures)
+returns-then-location-sets c = left_first c.requires.0 c.requires.1 (sym c.in-Some.is ∙ c.find.ensures) c.if-location-sets.true (subst (λ (p : List ℕ). Wrote c.args.code.now c.first_occurrence-next.new.code c.args.at c.first_occurrence-next.result (first_code p (get_or c.args.part.now 1 0) c.args.under)) (from_drop 2 c.args.part.now) c.first_occurrence-next.ensures)
 
 pub overflow_mul-row : goal.overflow_mul-row
-overflow_mul-row c = let p = (its_row c.requires.0 c.requires.1 (sym c.in-At.is ∙ c.find.ensures)).within in search rules
+overflow_mul-row c = let p = (its_row c.requires.0 c.requires.1 (sym c.in-Some.is ∙ c.find.ensures)).within in search rules
 
 pub offset_bounds-rows-location : goal.offset_bounds-rows-location
-offset_bounds-rows-location c = let p = (its_row c.requires.0 c.requires.1 (sym c.in-At.is ∙ c.find.ensures)).within in search rules
+offset_bounds-rows-location c = let p = (its_row c.requires.0 c.requires.1 (sym c.in-Some.is ∙ c.find.ensures)).within in search rules
 
 pub slice_bounds-row-count : goal.slice_bounds-row-count
-slice_bounds-row-count c = let p = (its_row c.requires.0 c.requires.1 (sym c.in-At.is ∙ c.find.ensures)).within in search rules
+slice_bounds-row-count c = let p = (its_row c.requires.0 c.requires.1 (sym c.in-Some.is ∙ c.find.ensures)).within in search rules
 
 pub slice_bounds-row-start : goal.slice_bounds-row-start
-slice_bounds-row-start c = let p = (its_row c.requires.0 c.requires.1 (sym c.in-At.is ∙ c.find.ensures)).within in search rules
+slice_bounds-row-start c = let p = (its_row c.requires.0 c.requires.1 (sym c.in-Some.is ∙ c.find.ensures)).within in search rules
 
 pub overflow_cast-entry : goal.overflow_cast-entry
-overflow_cast-entry c = let p = (its_row c.requires.0 c.requires.1 (sym c.in-At.is ∙ c.find.ensures)).within in search rules
+overflow_cast-entry c = let p = (its_row c.requires.0 c.requires.1 (sym c.in-Some.is ∙ c.find.ensures)).within in search rules
 
 pub slice_bounds-later_occurrence-count : goal.slice_bounds-later_occurrence-count
 slice_bounds-later_occurrence-count c = let h = here c.requires.0 c.requires.1 in search rules
@@ -64,7 +64,7 @@ pub slice_bounds-later_occurrence-start : goal.slice_bounds-later_occurrence-sta
 slice_bounds-later_occurrence-start c = let h = here c.requires.0 c.requires.1 in search rules
 
 pub later_occurrence-next-requires : goal.later_occurrence-next-requires
-later_occurrence-next-requires c = let s = c.args in rw (from_drop 2 s.part.now, from_drop (11 * c.in-At.location) s.rows.now) (left_later_fits c.requires.0 c.requires.1 (sym c.in-At.is ∙ c.find.ensures) c.if-location-sets.false)
+later_occurrence-next-requires c = let s = c.args in rw (from_drop 2 s.part.now, from_drop (11 * c.in-Some.location) s.rows.now) (left_later_fits c.requires.0 c.requires.1 (sym c.in-Some.is ∙ c.find.ensures) c.if-location-sets.false)
 
 pub returns : goal.returns
-returns c = let s = c.args in left_later c.requires.0 c.requires.1 (sym c.in-At.is ∙ c.find.ensures) c.if-location-sets.false (rw (from_drop 2 s.part.now, from_drop (11 * c.in-At.location) s.rows.now) at c.later_occurrence-next.ensures)
+returns c = let s = c.args in left_later c.requires.0 c.requires.1 (sym c.in-Some.is ∙ c.find.ensures) c.if-location-sets.false (rw (from_drop 2 s.part.now, from_drop (11 * c.in-Some.location) s.rows.now) at c.later_occurrence-next.ensures)

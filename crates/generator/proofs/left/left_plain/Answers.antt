@@ -1,15 +1,16 @@
 -- `left::left_plain` meets its contract: the test of the word is the definition's.
+use lib.Dec.{lit<}
 use borrow.Author.Tests.{lt-ltb, le-ltb}
 use Rattle.generator.proofs.left.left_plain.Goals as goal
 
-pub put_three-requires : goal.put_three-requires
-put_three-requires c = rw (lt-ltb c.args.word 65536 c.if-word-lt-FIRST_SYMBOL.true) at c.requires
+pub put-requires : goal.put-requires
+put-requires c = (lit< tt, rw (lt-ltb c.args.word 65536 c.if-word-lt-FIRST_SYMBOL.true) at c.requires)
 
 pub returns-then-word-lt-FIRST_SYMBOL : goal.returns-then-word-lt-FIRST_SYMBOL
-returns-then-word-lt-FIRST_SYMBOL c = rw (lt-ltb c.args.word 65536 c.if-word-lt-FIRST_SYMBOL.true) c.put_three.ensures
+returns-then-word-lt-FIRST_SYMBOL c = rw (lt-ltb c.args.word 65536 c.if-word-lt-FIRST_SYMBOL.true) c.put.ensures
 
-pub put_three-requires-2 : goal.put_three-requires-2
-put_three-requires-2 c = rw (le-ltb c.args.word 65536 c.if-word-lt-FIRST_SYMBOL.false) at c.requires
+pub put-requires-2 : goal.put-requires-2
+put-requires-2 c = (lit< tt, rw (le-ltb c.args.word 65536 c.if-word-lt-FIRST_SYMBOL.false) at c.requires)
 
 pub returns : goal.returns
-returns c = rw (le-ltb c.args.word 65536 c.if-word-lt-FIRST_SYMBOL.false) c.put_three-2.ensures
+returns c = rw (le-ltb c.args.word 65536 c.if-word-lt-FIRST_SYMBOL.false) c.put-2.ensures
