@@ -28,58 +28,57 @@ use Rattle.compiled.proofs.Length.{length_accepted}
 use Rattle.compiled.proofs.WordCount.{compiled_fits}
 use Rattle.tables.specs.Answers.{sized}
 use Rattle.tables.specs.Parts.{front, Begins}
-use Rattle.tables.specs.declared.accept.Sized.TheVariants as table
 use Rattle.tables.proofs.Accepted.{AcceptedTable, accepted_table}
 use Rattle.symbols.specs.Rows.{rows_in}
 use Rattle.symbols.specs.Entries.{all_found}
 use Rattle.symbols.proofs.Asked.{found_table}
 use Rattle.symbols.proofs.Whole.{Made}
 use Rattle.generator.specs.Written.{Fits}
-use Rattle.compiler.specs.declared.Compiled.TheVariants.{Words, Refused}
+use Rattle.std.specs.Prelude.{Ok, Err}
 use Rattle.compiler.specs.Answers.{given, sides_in, sides_answer, Sides, crowded}
 
 -- ---- The sides: left 2, 1, 3; right 2, 1, 3; then 5, 6, 7
 
 -- a refused table is what is answered
-with_refused : (a : Answer Term) (f : Term → Answer Rule) (r : Refusal) → table.Refused r ≡ sized a → sides_answer (with a f) ≡ table.Refused r
+with_refused : (a : Answer Term) (f : Term → Answer Rule) (r : Refusal) → Err r ≡ sized a → sides_answer (with a f) ≡ Err r
 with_refused (answered l) f r e = never (cc)
 with_refused (refused w) f r e = sym e
 
-pub left_refused : (left right : List ℕ) (r : Refusal) → table.Refused r ≡ sized (table_in side_limit left) → sides_answer (sides_in left right) ≡ table.Refused r
+pub left_refused : (left right : List ℕ) (r : Refusal) → Err r ≡ sized (table_in side_limit left) → sides_answer (sides_in left right) ≡ Err r
 unfolding sides_in
 left_refused left right r e = with_refused (table_in side_limit left) _ r e
 
 module _ {left : List ℕ} {n : ℕ} (a : AcceptedTable side_limit left n) where
-  pub right_refused : (right : List ℕ) (r : Refusal) → table.Refused r ≡ sized (table_in side_limit right) → sides_answer (sides_in left right) ≡ table.Refused r
+  pub right_refused : (right : List ℕ) (r : Refusal) → Err r ≡ sized (table_in side_limit right) → sides_answer (sides_in left right) ≡ Err r
   unfolding sides_in
   right_refused right r e = rw a.term (with_refused (table_in side_limit right) _ r e)
 
   module _ {right : List ℕ} {m : ℕ} (b : AcceptedTable side_limit right m) where
-    pub sides_no_symbol : is_symbol (front left) ≡ false → sides_answer (sides_in left right) ≡ table.Refused refusal.LeftRootNoSymbol
+    pub sides_no_symbol : is_symbol (front left) ≡ false → sides_answer (sides_in left right) ≡ Err refusal.LeftRootNoSymbol
     unfolding sides_in
     sides_no_symbol e = rw (a.term, b.term, e) refl
 
     module _ (s : is_symbol (front left) ≡ true) where
-      pub sides_open : closed (front left) && closed (front right) ≡ false → sides_answer (sides_in left right) ≡ table.Refused refusal.FreeVariable
+      pub sides_open : closed (front left) && closed (front right) ≡ false → sides_answer (sides_in left right) ≡ Err refusal.FreeVariable
       unfolding sides_in
       sides_open e = rw (a.term, b.term, s, e) refl
 
       module _ (k : closed (front left) && closed (front right) ≡ true) where
-        pub sides_not_simple : simple (front left) ≡ false → sides_answer (sides_in left right) ≡ table.Refused refusal.ArgumentsNotDistinctVariables
+        pub sides_not_simple : simple (front left) ≡ false → sides_answer (sides_in left right) ≡ Err refusal.ArgumentsNotDistinctVariables
         unfolding sides_in
         sides_not_simple e = rw (a.term, b.term, s, k, e) refl
 
-        pub sides_simple : simple (front left) ≡ true → sides_answer (sides_in left right) ≡ table.Nodes n
+        pub sides_simple : simple (front left) ≡ true → sides_answer (sides_in left right) ≡ Ok n
         unfolding sides_in
-        sides_simple e = rw (a.term, b.term, s, k, e) (ap table.Nodes (sym a.count))
+        sides_simple e = rw (a.term, b.term, s, k, e) (ap Ok (sym a.count))
 
 -- ---- Sides that are accepted so far
 
-answered_sides : (o : Answer Rule) (n : ℕ) → table.Nodes n ≡ sides_answer o → (p : Rule) × (o ≡ answered p)
+answered_sides : (o : Answer Rule) (n : ℕ) → Ok n ≡ sides_answer o → (p : Rule) × (o ≡ answered p)
 answered_sides (answered p) n e = (p, refl)
 answered_sides (refused w) n e = never (cc)
 
-pub refused_sides : (o : Answer Rule) (w : Refusal) → table.Refused w ≡ sides_answer o → o ≡ refused w
+pub refused_sides : (o : Answer Rule) (w : Refusal) → Err w ≡ sides_answer o → o ≡ refused w
 refused_sides (answered (rule l r)) w e = never (cc)
 refused_sides (refused v) w e = let q : w ≡ v = cc in rw q
 
@@ -114,7 +113,7 @@ sides_of left right p e =
       accepted = e ∙ ap answered q;
     }
 
-pub sides_accepted : (left right : List ℕ) (n : ℕ) → table.Nodes n ≡ sides_answer (sides_in left right) → Sides left right
+pub sides_accepted : (left right : List ℕ) (n : ℕ) → Ok n ≡ sides_answer (sides_in left right) → Sides left right
 sides_accepted left right n e = let p = answered_sides (sides_in left right) n e in sides_of left right p.0 p.1
 
 -- what is answered to them: 8 or 9, or the rule
@@ -179,12 +178,12 @@ rule_refused left right w e = go (table_in side_limit left) (table_in side_limit
     go (answered l) (refused r) e = e
     go (answered l) (answered r) e = refused_chain (is_symbol l) (closed l && closed r) (simple l) _ _ _ (rule l r) (rest l r) w e
 
-pub call_refused : (left right code : List ℕ) (w : Refusal) → table.Refused w ≡ sides_answer (sides_in left right) → given (Refused w) code ≡ compile_call left right code
+pub call_refused : (left right code : List ℕ) (w : Refusal) → Err w ≡ sides_answer (sides_in left right) → given (Err w) code ≡ compile_call left right code
 unfolding compile_call
 call_refused left right code w e = rw (rule_refused left right w (refused_sides (sides_in left right) w e))
 
 crowded_answer : (q : Bool) (code : List ℕ) (o : Answer Rule) (f : Rule → Answer (List ℕ))
-    → given (cond q (Refused refusal.TooManyMetavariables) (Refused refusal.MetavariableAbsentOnLeft)) code
+    → given (Err (cond q refusal.TooManyMetavariables refusal.MetavariableAbsentOnLeft)) code
     ≡ compile_answer code (with (unless q refusal.MetavariableAbsentOnLeft (unless false refusal.TooManyMetavariables o)) f)
 crowded_answer true code o f = refl
 crowded_answer false code o f = refl
@@ -201,11 +200,11 @@ module _ {left right : List ℕ} (s : Sides left right) where
   unfolding rule_in
   rule_rest = let m = met s in rw (m.left_is, m.right_is, m.root, m.both_closed, m.left_simple)
 
-  pub call_absent : (code : List ℕ) → contains (metas (front right)) (metas (front left)) ≡ false → given (Refused refusal.MetavariableAbsentOnLeft) code ≡ compile_call left right code
+  pub call_absent : (code : List ℕ) → contains (metas (front right)) (metas (front left)) ≡ false → given (Err refusal.MetavariableAbsentOnLeft) code ≡ compile_call left right code
   unfolding compile_call
   call_absent code e = rw (rule_rest, e)
 
-  pub call_crowded : (code : List ℕ) → metavariable_limit < length (symbol_table (front left)) → given (crowded (front left) (front right)) code ≡ compile_call left right code
+  pub call_crowded : (code : List ℕ) → metavariable_limit < length (symbol_table (front left)) → given (Err (crowded (front left) (front right))) code ≡ compile_call left right code
   unfolding compile_call
   call_crowded code h =
       rw (rule_rest, lt-leb (length (symbol_table (front left))) metavariable_limit h)
@@ -234,7 +233,7 @@ module _ {left right : List ℕ} (s : Sides left right) where
     rule_is : rule_in left right ≡ answered (rule (front left) (front right))
     rule_is = accepted_rule_in left right (front left) (front right) accepted
 
-    pub call_short : (code : List ℕ) → length code < code_length (front left) (front right) → given (Refused refusal.CodeTableShort) code ≡ compile_call left right code
+    pub call_short : (code : List ℕ) → length code < code_length (front left) (front right) → given (Err refusal.CodeTableShort) code ≡ compile_call left right code
     unfolding compile_call
     call_short code h = let e = length_is in rw (rule_is, lt-leb (length (words (compile (front left) (front right)))) (length code) (omega arith))
 
@@ -242,7 +241,7 @@ module _ {left right : List ℕ} (s : Sides left right) where
     code_fits h = let e = length_is in let b = length_small in record { room = omega arith; small = omega arith }
 
     pub call_done : (code : List ℕ) → code_length (front left) (front right) ≤ length code → {n : ℕ} → n ≡ code_length (front left) (front right)
-        → given (Words n) (at_front code (words (compile (front left) (front right)))) ≡ compile_call left right code
+        → given (Ok n) (at_front code (words (compile (front left) (front right)))) ≡ compile_call left right code
     unfolding compile_call
     call_done code h k = let e = length_is in rw (rule_is, le-leb (length (words (compile (front left) (front right)))) (length code) (omega arith), k ∙ e)
 

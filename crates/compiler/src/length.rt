@@ -3,7 +3,8 @@ ghost use Rattle.std.specs.Prelude.{◌≡◌, ◌≤◌, length};
 ghost use Rattle.compiled.specs.Length.{right_words};
 ghost use Rattle.tables.specs.Parts.{front, Begins};
 
-use tables::node::{ABSTRACTION, FIRST_METAVARIABLE, FIRST_SYMBOL};
+use tables::node::{ABSTRACTION, FIRST_SYMBOL};
+use tables::walk::Nodes;
 
 // Words of a variable's code: PUSHVAR, index.
 const VARIABLE_WORDS: usize = 2;
@@ -24,27 +25,17 @@ pub fn right_words(part: &[u32]) -> usize
     requires { Begins 1 part.now × (length part.now ≤ 512) }
     ensures { result ≡ right_words (front part.now) }
 {
-    let mut owed: usize = 1;
-    let mut at: usize = 0;
     let mut words: usize = 0;
-    while 0 < owed {
-        let word = part[at];
-        let count = part[at + 1] as usize;
-        owed = owed - 1 + count;
-        at += 2;
-        if word < FIRST_SYMBOL {
-            words += VARIABLE_WORDS;
-            continue;
-        }
-        if word < FIRST_METAVARIABLE {
-            words += SYMBOL_WORDS;
-            continue;
-        }
-        if word == ABSTRACTION {
-            words += ABSTRACTION_WORDS;
-            continue;
-        }
-        words += METAVARIABLE_WORDS + BODY_WORDS * count;
+    for node in Nodes::of(part) {
+        words += if node.is_metavariable() {
+            METAVARIABLE_WORDS + BODY_WORDS * node.count as usize
+        } else if node.word == ABSTRACTION {
+            ABSTRACTION_WORDS
+        } else if node.word < FIRST_SYMBOL {
+            VARIABLE_WORDS
+        } else {
+            SYMBOL_WORDS
+        };
     }
     words
 }

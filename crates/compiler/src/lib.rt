@@ -18,57 +18,48 @@ use documents::Refusal;
 use generator::left::left_side;
 use generator::right::right_side;
 use keys::all_known;
-use symbols::{Entered, ROW_WORDS, TABLE_WORDS, all_found, enter_all};
-use tables::accept::Sized;
+use symbols::{ROW_WORDS, TABLE_WORDS, all_found, enter_all};
 
-// The words of the code, or a refusal.
-#[derive(Drop)]
-pub enum Compiled {
-    Words(u32),
-    Refused(Refusal),
-}
-
-// The code of a rule at the front of the code table, or the first refusal of left 2, 1, 3; right 2, 1, 3; then 5, 6, 7, 8, 9, 10, and no word
-// changed.
-pub fn compile(left: &[u32], right: &[u32], code: &mut [u32]) -> Compiled
+// The code of a rule at the front of the code table, and how many words it has; or the first refusal of left 2, 1, 3; right 2, 1, 3; then 5, 6, 7,
+// 8, 9, 10, and no word changed.
+pub fn compile(left: &[u32], right: &[u32], code: &mut [u32]) -> Result<u32, Refusal>
     ensures { given result code.new ≡ compile_call left.now right.now code.old }
 {
-    let Sized::Refused(why) = accept_sides(left, right) else {
-        return translate(left, right, code);
-    };
-    Compiled::Refused(why)
+    accept_sides(left, right)?;
+    translate(left, right, code)
 }
 
 // 8, 9, 10, or the code.
-fn translate(left: &[u32], right: &[u32], code: &mut [u32]) -> Compiled
+fn translate(left: &[u32], right: &[u32], code: &mut [u32]) -> Result<u32, Refusal>
     requires { Sides left.now right.now }
     ensures { given result code.new ≡ compile_call left.now right.now code.old }
 {
     let mut table = [0u32; TABLE_WORDS];
-    let Entered::Words(_, first, left_words) = enter_all(left, 0, &mut table, TABLE_WORDS) else {
-        return over_sixteen(left, right);
+    let Some(entered) = enter_all(left, 0, &mut table, TABLE_WORDS) else {
+        return Err(over_sixteen(left, right));
     };
-    let rows = &table[first..];
+    let rows = &table[entered.first..];
     if !all_found(right, rows) {
-        return Compiled::Refused(Refusal::MetavariableAbsentOnLeft);
+        return Err(Refusal::MetavariableAbsentOnLeft);
     }
-    let words = left_words + right_words(right);
+    let words = entered.words + right_words(right);
     if code.len() < words {
-        return Compiled::Refused(Refusal::CodeTableShort);
+        return Err(Refusal::CodeTableShort);
     }
     generate(left, right, rows, code);
-    Compiled::Words(words as u32)
+    Ok(words as u32)
 }
 
 // A left side with more metavariables than the table has rows: 8 or 9.
-fn over_sixteen(left: &[u32], right: &[u32]) -> Compiled
+fn over_sixteen(left: &[u32], right: &[u32]) -> Refusal
     requires { Crowded left.now right.now }
     ensures { result ≡ crowded (front left.now) (front right.now) }
 {
-    if !all_known(right, left) {
-        return Compiled::Refused(Refusal::MetavariableAbsentOnLeft);
+    if all_known(right, left) {
+        Refusal::TooManyMetavariables
+    } else {
+        Refusal::MetavariableAbsentOnLeft
     }
-    Compiled::Refused(Refusal::TooManyMetavariables)
 }
 
 // Left code, then right code. As many SETs are to come as there are rows.

@@ -5,33 +5,27 @@ ghost use Rattle.tables.specs.Parts.{front, Begins};
 ghost use Rattle.compiler.specs.Answers.{sides_in, sides_answer};
 
 use documents::Refusal;
-use tables::accept::{Sized, accept};
+use tables::accept::accept;
 use tables::forbid::is_closed;
 use tables::node::{FIRST_METAVARIABLE, FIRST_SYMBOL, SIDE_NODES};
 use tables::side::is_simple;
 
 // The left side's node count, or a refusal.
-pub fn accept_sides(left: &[u32], right: &[u32]) -> Sized
+pub fn accept_sides(left: &[u32], right: &[u32]) -> Result<usize, Refusal>
     ensures { result ≡ sides_answer (sides_in left.now right.now) }
 {
-    let accepted = accept(left, SIDE_NODES);
-    let Sized::Nodes(_) = accepted else {
-        return accepted;
-    };
-    let other = accept(right, SIDE_NODES);
-    let Sized::Nodes(_) = other else {
-        return other;
-    };
+    let nodes = accept(left, SIDE_NODES)?;
+    accept(right, SIDE_NODES)?;
     if !is_symbol(left) {
-        return Sized::Refused(Refusal::LeftRootNoSymbol);
+        return Err(Refusal::LeftRootNoSymbol);
     }
     if !both_closed(left, right) {
-        return Sized::Refused(Refusal::FreeVariable);
+        return Err(Refusal::FreeVariable);
     }
     if !is_simple(left) {
-        return Sized::Refused(Refusal::ArgumentsNotDistinctVariables);
+        return Err(Refusal::ArgumentsNotDistinctVariables);
     }
-    accepted
+    Ok(nodes)
 }
 
 // Whether a part begins with a symbol.
@@ -39,11 +33,7 @@ fn is_symbol(part: &[u32]) -> bool
     requires { Begins 1 part.now }
     ensures { result ≡ is_symbol (front part.now) }
 {
-    let word = part[0];
-    if word < FIRST_SYMBOL {
-        return false;
-    }
-    word < FIRST_METAVARIABLE
+    FIRST_SYMBOL <= part[0] && part[0] < FIRST_METAVARIABLE
 }
 
 // Whether neither side has a free variable.
@@ -51,8 +41,5 @@ fn both_closed(left: &[u32], right: &[u32]) -> bool
     requires { Begins 1 left.now × Begins 1 right.now }
     ensures { result ≡ closed (front left.now) && closed (front right.now) }
 {
-    if !is_closed(left) {
-        return false;
-    }
-    is_closed(right)
+    is_closed(left) && is_closed(right)
 }

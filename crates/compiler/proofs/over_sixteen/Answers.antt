@@ -6,8 +6,8 @@ use Rattle.compiler.proofs.over_sixteen.Goals as goal
 pub all_known-requires : goal.all_known-requires
 all_known-requires c = let s = c.requires.sides in (s.right_begins, s.left_begins, right_short s, left_short s)
 
-pub returns-then-not-all_known : goal.returns-then-not-all_known
-returns-then-not-all_known c = rw (sym c.all_known.ensures ∙ c.if-not-all_known.true)
+pub returns-then-all_known : goal.returns-then-all_known
+returns-then-all_known c = rw (sym c.all_known.ensures ∙ c.if-all_known.true)
 
-pub returns : goal.returns
-returns c = rw (sym c.all_known.ensures ∙ c.if-not-all_known.false)
+pub returns-else-all_known : goal.returns-else-all_known
+returns-else-all_known c = rw (sym c.all_known.ensures ∙ c.if-all_known.false)

@@ -19,35 +19,35 @@ over_sixteen-requires c = record { sides = c.requires; many = table_full (replic
 pub returns-in_default : goal.returns-in_default
 returns-in_default c = rw c.over_sixteen.ensures (call_crowded c.requires c.args.code.now (table_full (replicate 176 0) refl c.enter_all.ensures c.in_default.is))
 
-pub offset_bounds-table-first : goal.offset_bounds-table-first
-offset_bounds-table-first c = let m = (table_made (replicate 176 0) refl c.enter_all.ensures c.in-Words.is).begins in search rules
+pub offset_bounds-table-entered : goal.offset_bounds-table-entered
+offset_bounds-table-entered c = let m = (table_made (replicate 176 0) refl c.enter_all.ensures c.in-Some.is).begins in search rules
 
 pub slice_bounds-rows-count : goal.slice_bounds-rows-count
-slice_bounds-rows-count c = let m = (table_made (replicate 176 0) refl c.enter_all.ensures c.in-Words.is).begins in search rules
+slice_bounds-rows-count c = let m = (table_made (replicate 176 0) refl c.enter_all.ensures c.in-Some.is).begins in search rules
 
 pub slice_bounds-rows-start : goal.slice_bounds-rows-start
-slice_bounds-rows-start c = let m = (table_made (replicate 176 0) refl c.enter_all.ensures c.in-Words.is).begins in search rules
+slice_bounds-rows-start c = let m = (table_made (replicate 176 0) refl c.enter_all.ensures c.in-Some.is).begins in search rules
 
 pub all_found-requires : goal.all_found-requires
 all_found-requires c = c.requires.right_begins
 
 pub returns-then-not-all_found : goal.returns-then-not-all_found
-returns-then-not-all_found c = call_absent c.requires c.args.code.now (sym (c.all_found.ensures ∙ found_rows (metas (front c.args.right.now)) (rows_of c.args.left.now (table_made (replicate 176 0) refl c.enter_all.ensures c.in-Words.is) c.enter_all.auto.table)) ∙ c.if-not-all_found.true)
+returns-then-not-all_found c = call_absent c.requires c.args.code.now (sym (c.all_found.ensures ∙ found_rows (metas (front c.args.right.now)) (rows_of c.args.left.now (table_made (replicate 176 0) refl c.enter_all.ensures c.in-Some.is) c.enter_all.auto.table)) ∙ c.if-not-all_found.true)
 
 pub right_words-requires : goal.right_words-requires
 right_words-requires c = (c.requires.right_begins, right_short c.requires)
 
 pub overflow_add-words : goal.overflow_add-words
-overflow_add-words c = let m = (table_made (replicate 176 0) refl c.enter_all.ensures c.in-Words.is) in let r = c.right_words.ensures in let b = length_small c.requires (sym (c.all_found.ensures ∙ found_rows (metas (front c.args.right.now)) (rows_of c.args.left.now (table_made (replicate 176 0) refl c.enter_all.ensures c.in-Words.is) c.enter_all.auto.table)) ∙ c.if-not-all_found.false) m.few in let e = m.counts in search rules
+overflow_add-words c = let m = (table_made (replicate 176 0) refl c.enter_all.ensures c.in-Some.is) in let r = c.right_words.ensures in let b = length_small c.requires (sym (c.all_found.ensures ∙ found_rows (metas (front c.args.right.now)) (rows_of c.args.left.now (table_made (replicate 176 0) refl c.enter_all.ensures c.in-Some.is) c.enter_all.auto.table)) ∙ c.if-not-all_found.false) m.few in let e = m.counts in search rules
 
 pub returns-then-code-words : goal.returns-then-code-words
-returns-then-code-words c = let m = (table_made (replicate 176 0) refl c.enter_all.ensures c.in-Words.is) in let r = c.right_words.ensures in let e = m.counts in call_short c.requires (sym (c.all_found.ensures ∙ found_rows (metas (front c.args.right.now)) (rows_of c.args.left.now (table_made (replicate 176 0) refl c.enter_all.ensures c.in-Words.is) c.enter_all.auto.table)) ∙ c.if-not-all_found.false) m.few c.args.code.now (omega arith)
+returns-then-code-words c = let m = (table_made (replicate 176 0) refl c.enter_all.ensures c.in-Some.is) in let r = c.right_words.ensures in let e = m.counts in call_short c.requires (sym (c.all_found.ensures ∙ found_rows (metas (front c.args.right.now)) (rows_of c.args.left.now (table_made (replicate 176 0) refl c.enter_all.ensures c.in-Some.is) c.enter_all.auto.table)) ∙ c.if-not-all_found.false) m.few c.args.code.now (omega arith)
 
 pub generate-requires : goal.generate-requires
-generate-requires c = let m = (table_made (replicate 176 0) refl c.enter_all.ensures c.in-Words.is) in let r = c.right_words.ensures in let e = m.counts in let t = (rows_of c.args.left.now (table_made (replicate 176 0) refl c.enter_all.ensures c.in-Words.is) c.enter_all.auto.table) in record { sides = c.requires; entries = t.entries; few = t.few; fits = code_fits c.requires (sym (c.all_found.ensures ∙ found_rows (metas (front c.args.right.now)) (rows_of c.args.left.now (table_made (replicate 176 0) refl c.enter_all.ensures c.in-Words.is) c.enter_all.auto.table)) ∙ c.if-not-all_found.false) m.few (omega arith) }
+generate-requires c = let m = (table_made (replicate 176 0) refl c.enter_all.ensures c.in-Some.is) in let r = c.right_words.ensures in let e = m.counts in let t = (rows_of c.args.left.now (table_made (replicate 176 0) refl c.enter_all.ensures c.in-Some.is) c.enter_all.auto.table) in record { sides = c.requires; entries = t.entries; few = t.few; fits = code_fits c.requires (sym (c.all_found.ensures ∙ found_rows (metas (front c.args.right.now)) (rows_of c.args.left.now (table_made (replicate 176 0) refl c.enter_all.ensures c.in-Some.is) c.enter_all.auto.table)) ∙ c.if-not-all_found.false) m.few (omega arith) }
 
 pub overflow_cast-result : goal.overflow_cast-result
-overflow_cast-result c = let m = (table_made (replicate 176 0) refl c.enter_all.ensures c.in-Words.is) in let r = c.right_words.ensures in let b = length_small c.requires (sym (c.all_found.ensures ∙ found_rows (metas (front c.args.right.now)) (rows_of c.args.left.now (table_made (replicate 176 0) refl c.enter_all.ensures c.in-Words.is) c.enter_all.auto.table)) ∙ c.if-not-all_found.false) m.few in let e = m.counts in search rules
+overflow_cast-result c = let m = (table_made (replicate 176 0) refl c.enter_all.ensures c.in-Some.is) in let r = c.right_words.ensures in let b = length_small c.requires (sym (c.all_found.ensures ∙ found_rows (metas (front c.args.right.now)) (rows_of c.args.left.now (table_made (replicate 176 0) refl c.enter_all.ensures c.in-Some.is) c.enter_all.auto.table)) ∙ c.if-not-all_found.false) m.few in let e = m.counts in search rules
 
 pub returns : goal.returns
-returns c = let m = (table_made (replicate 176 0) refl c.enter_all.ensures c.in-Words.is) in let r = c.right_words.ensures in let e = m.counts in rw c.generate.ensures (call_done c.requires (sym (c.all_found.ensures ∙ found_rows (metas (front c.args.right.now)) (rows_of c.args.left.now (table_made (replicate 176 0) refl c.enter_all.ensures c.in-Words.is) c.enter_all.auto.table)) ∙ c.if-not-all_found.false) m.few c.args.code.now (omega arith) (omega arith))
+returns c = let m = (table_made (replicate 176 0) refl c.enter_all.ensures c.in-Some.is) in let r = c.right_words.ensures in let e = m.counts in rw c.generate.ensures (call_done c.requires (sym (c.all_found.ensures ∙ found_rows (metas (front c.args.right.now)) (rows_of c.args.left.now (table_made (replicate 176 0) refl c.enter_all.ensures c.in-Some.is) c.enter_all.auto.table)) ∙ c.if-not-all_found.false) m.few c.args.code.now (omega arith) (omega arith))

@@ -2,8 +2,8 @@
 use mathlib.Core.Path.{sym, ◌∙◌}
 use Rattle.compiler.proofs.sides.both_closed.Goals as goal
 
-pub returns-then-not-is_closed : goal.returns-then-not-is_closed
-returns-then-not-is_closed c = rw (sym c.is_closed.ensures ∙ c.if-not-is_closed.true)
+pub returns-else-is_closed : goal.returns-else-is_closed
+returns-else-is_closed c = rw (sym c.is_closed.ensures ∙ c.if-is_closed.false) c.if-is_closed.false
 
-pub returns : goal.returns
-returns c = rw (sym c.is_closed.ensures ∙ c.if-not-is_closed.false) c.is_closed-2.ensures
+pub returns-then-is_closed : goal.returns-then-is_closed
+returns-then-is_closed c = rw (sym c.is_closed.ensures ∙ c.if-is_closed.true) c.is_closed-then-is_closed.ensures
