@@ -1,6 +1,6 @@
 -- The keys of a side's metavariables, as a walk of its table puts them down; and that a metavariable is known by its key.
 use mathlib.Core.Path.{◌≡◌, refl, sym, ap, ap₂, ◌∙◌}
-use Prim.Native.Nat.{ℕ, zero, suc, ◌+◌, ◌-◌, ◌*◌, ◌%◌, ◌≤◌, ◌<◌}
+use Prim.Native.Nat.{ℕ, zero, suc, ◌+◌, ◌*◌, ◌%◌, ◌≤◌, ◌<◌}
 use native.Mathlib.Numerals.{add-one}
 use native.Mathlib.Omega.{arith}
 use mathlib.Core.Bool.{Bool, true, false, ◌&&◌, ◌||◌}
@@ -14,9 +14,13 @@ use Rattle.documents.specs.Terms.{Term, Terms}
 use Rattle.documents.specs.Rules.{metas, among, contains}
 use Rattle.documents.proofs.Lists.{never, on, off, of_and, case}
 use Rattle.tables.specs.Parts.{terms, front, Begins}
-use Rattle.tables.proofs.Walks.{Walk, walk_on, walk_from, Walking, walking_from, walking_on, ended}
+use Rattle.std.specs.Prelude.{Some, None}
+use Rattle.tables.specs.declared.walk.Node.{Node}
+use Rattle.tables.specs.declared.walk.Nodes.{Nodes}
+use Rattle.tables.specs.Nodes.{Stands, starts, node_gives, owes, is_metavariable}
+use Rattle.tables.proofs.Walks.{Walk, walk_on, walk_from, ended}
 use Rattle.tables.proofs.Sides.{metas_front, metas_here, metas_behind, unequal}
-use Rattle.tables.proofs.Fronts.{last_word}
+use Rattle.tables.proofs.Nodes.{metavariable_range, metas_first, metas_at, metas_past, owes_none, stood}
 use Rattle.keys.specs.Keys.{key, keys_of, Keyed}
 
 -- ---- Names
@@ -70,74 +74,67 @@ contains_keys (m ∷ ms) ps n k = ap₂ (λ (a b : Bool). a && b) (among_keys m 
 -- ---- The walk that puts them down
 
 -- with the keys of the terms still owed, those put down are the side's
-pub record Keying (part keys : List ℕ) (owed at next : ℕ) : Type 0 where
-  pub walking : Walking part owed at
-  pub short : length part ≤ 512
+pub record Keying (part keys : List ℕ) (walk : Nodes) (next : ℕ) : Type 0 where
+  pub short : length walk.part.now ≤ 512
   pub size : length keys ≡ 256
-  pub few : 2 * next ≤ at
-  pub same : take next keys ++ keys_of (metas (terms owed (drop at part))) ≡ keys_of (metas (front part))
+  pub few : 2 * next ≤ walk.at
+  pub same : take next keys ++ keys_of (metas (owes walk)) ≡ keys_of (metas (front part))
 
-pub keying_from : {part keys : List ℕ} → Begins 1 part → length part ≤ 512 → length keys ≡ 256 → Keying part keys 1 0 0
-keying_from {part} {keys} b h e = record {
-  walking = walking_from b;
-  short = h;
+pub keying_from : (part keys : List ℕ) (s : Nodes) → Begins 1 part → length part ≤ 512 → length keys ≡ 256 → starts part s → Keying part keys s 0
+keying_from part keys s b h e i = record {
+  short = rw i.0 h;
   size = e;
   few = omega arith;
-  same = ap keys_of (metas_front b);
+  same = ap keys_of (metas_first part s b i);
 }
 
-pub keying_ended : {part keys : List ℕ} {owed at next : ℕ} → Keying part keys owed at next → owed ≤ 0 → Keyed (front part) keys next
-keying_ended {part} {keys} {owed} {at} {next} k h =
-    let e = ended k.walking.walk h in
-    record {
-      size = k.size;
-      within =
-          let w = k.walking.walk.within in
-          let s = k.short in
-          let f = k.few in
-          omega arith;
-      keys = sym (append-nil (take next keys)) ∙ ap (λ (ts : Terms). take next keys ++ keys_of (metas ts)) (sym e) ∙ k.same;
-    }
+pub keying_ended : {part keys : List ℕ} {next : ℕ} (s t : Nodes) → Keying part keys s next → Stands s → node_gives s None t → Keyed (front part) keys next
+keying_ended {part} {keys} {next} s t k b g = record {
+  size = k.size;
+  within =
+      let w = b.1 in
+      let h = k.short in
+      let f = k.few in
+      omega arith;
+  keys = sym (append-nil (take next keys)) ∙ ap (λ (ts : Terms). take next keys ++ keys_of (metas ts)) (sym (owes_none s t b g)) ∙ k.same;
+}
 
-module _ {part keys : List ℕ} {owed at next : ℕ} (k : Keying part keys owed at next) (h : 0 < owed) where
-  pub keying_room : next < 256
+module _ {part keys : List ℕ} {next : ℕ} (s t : Nodes) (n : Node) (k : Keying part keys s next) (b : Stands s) (g : node_gives s (Some n) t) where
+  keying_room : next < 256
   keying_room =
-      let w = k.walking.walk.within in
-      let s = k.short in
+      let w = (stood s t n b g).within in
+      let o = g.1.0 in
+      let h = k.short in
       let f = k.few in
       omega arith
 
   -- past a node that is no metavariable
-  pub keying_on : (131072 ≤ get_or part at 0 → get_or part at 0 < 196608 → ⊥) → Keying part keys (owed - 1 + get_or part (at + 1) 0) (at + 2) next
-  keying_on o = record {
-    walking = walking_on k.walking h;
-    short = k.short;
+  pub keying_on : is_metavariable n.word ≡ false → Keying part keys t next
+  keying_on m = record {
+    short = rw g.0 k.short;
     size = k.size;
-    few = let f = k.few in omega arith;
-    same = ap (λ (ms : List (ℕ × ℕ)). take next keys ++ keys_of ms) (sym (metas_behind k.walking.walk h o)) ∙ k.same;
+    few = let f = k.few in let a = g.1.4 in omega arith;
+    same = ap (λ (ms : List (ℕ × ℕ)). take next keys ++ keys_of ms) (sym (metas_past s t n b g m)) ∙ k.same;
   }
 
-  -- past a metavariable, whose key is put down
-  pub keying_key : 131072 ≤ get_or part at 0 → (get_or part at 0 ≡ 196608 → ⊥)
-      → Keying part (set keys next (get_or part at 0 + 65536 * get_or part (at + 1) 0)) (owed - 1 + get_or part (at + 1) 0) (at + 2) (next + 1)
-  keying_key lo ne =
-      let w = get_or part at 0 in
-      let c = get_or part (at + 1) 0 in
-      let hi = last_word k.walking.walk h in
-      let z = k.size in
-      let r = keying_room in
-      let rest = metas (terms (owed - 1 + c) (drop (at + 2) part)) in
-      let e : 131072 + w % 65536 + 65536 * c ≡ w + 65536 * c = omega arith in
-      let m : keys_of (metas (terms owed (drop at part))) ≡ (w + 65536 * c) ∷ keys_of rest = rw e at (ap keys_of (metas_here k.walking.walk h lo (omega arith))) in
-      record {
-        walking = walking_on k.walking h;
-        short = k.short;
-        size = length-set keys next (w + 65536 * c) ∙ k.size;
-        few = let f = k.few in omega arith;
-        same =
-            rw (add-one next, take-suc-set keys next (w + 65536 * c) (omega arith))
-            (append_snoc (take next keys) (w + 65536 * c) (keys_of rest) ∙ ap (λ (l : List ℕ). take next keys ++ l) (sym m) ∙ k.same);
-      }
+  module _ (m : is_metavariable n.word ≡ true) where
+    -- past a metavariable, whose key is put down
+    pub keying_key : Keying part (set keys next (n.word + 65536 * n.count)) t (next + 1)
+    keying_key =
+        let w = n.word + 65536 * n.count in
+        let r : (131072 ≤ n.word) × (n.word < 196608) = metavariable_range m in
+        let z = k.size in
+        let room = keying_room in
+        let e : 131072 + n.word % 65536 + 65536 * n.count ≡ w = omega arith in
+        let here : keys_of (metas (owes s)) ≡ w ∷ keys_of (metas (owes t)) = rw e at (ap keys_of (metas_at s t n b g m)) in
+        record {
+          short = rw g.0 k.short;
+          size = length-set keys next w ∙ k.size;
+          few = let f = k.few in let a = g.1.4 in omega arith;
+          same =
+              rw (add-one next, take-suc-set keys next w (omega arith))
+              (append_snoc (take next keys) w (keys_of (metas (owes t))) ∙ ap (λ (l : List ℕ). take next keys ++ l) (sym here) ∙ k.same);
+        }
 
 -- ---- The keys of two sides
 

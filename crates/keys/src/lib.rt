@@ -9,7 +9,7 @@ ghost use Rattle.documents.specs.Rules.{metas, contains};
 ghost use Rattle.tables.specs.Parts.{front, Begins};
 ghost use Rattle.keys.specs.Keys.{Keyed, Parted};
 
-use tables::node::{ABSTRACTION, FIRST_METAVARIABLE};
+use tables::walk::Nodes;
 
 // As many as a side has nodes.
 const MOST_KEYS: usize = 256;
@@ -39,22 +39,12 @@ fn put_keys(part: &[u32], keys: &mut [u32]) -> usize
     requires { Begins 1 part.now × (length part.now ≤ 512) × (length keys.old ≡ 256) }
     ensures { Keyed (front part.now) keys.new result }
 {
-    let mut owed: usize = 1;
-    let mut at: usize = 0;
     let mut next: usize = 0;
-    while 0 < owed {
-        let word = part[at];
-        let count = part[at + 1];
-        owed = owed - 1 + count as usize;
-        at += 2;
-        if word < FIRST_METAVARIABLE {
-            continue;
+    for node in Nodes::of(part) {
+        if node.is_metavariable() {
+            keys[next] = node.word + A_COUNT * node.count;
+            next += 1;
         }
-        if word == ABSTRACTION {
-            continue;
-        }
-        keys[next] = word + A_COUNT * count;
-        next += 1;
     }
     next
 }
