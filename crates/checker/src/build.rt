@@ -24,7 +24,9 @@ pub enum Ended {
     Done,
 }
 
-// Instructions from a place on: a block to its ADBMAL; a body, or the whole, to its end.
+// Instructions from a place on: a block to its ADBMAL; a body, or the whole, to its end. An entry is looked up here, since a function that takes all
+// sixteen keeps a copy of them.
+// Kept (point 5): code, end and entries go side by side: each body has an end of its own, so a struct of the three would be made anew at each.
 #[cycle(bodies_build_push)]
 pub fn build(
     code: &[u32],
@@ -38,6 +40,7 @@ pub fn build(
 {
     let mut at = from;
     let mut terms: usize = 0;
+    // Kept (point 3): an instruction says by its words where the next one stands, so the place goes on by these and not by one.
     while at < end {
         let next = fetch(code, at, end)?;
         let op = code[at];
@@ -54,8 +57,12 @@ pub fn build(
             at = after;
             terms += 1;
         } else if PUSHVAR < op {
-            let Some(entry) = entries.find(code[at + 1]) else {
+            let Some(i) = Entries::place(entries.count, code[at + 1]) else {
                 return Err(Refusal::DoesNotPass);
+            };
+            let entry = Entry {
+                depth: u32::from(entries.depths[i]),
+                guard: entries.guards[i],
             };
             at = push(code, at + 1, end, entries, nesting, entry)?;
             terms += 1;

@@ -38,11 +38,13 @@ fn obeys(code: &[u32]) -> Result<(), Refusal>
     requires { length code.now ≤ 4096 }
     ensures { result ≡ verdict (passes_at code.now 0 (matching (0 ∷ []) [] [])) }
 {
+    // Kept (point 6): no heap; a stack of 01's most current terms, of which so many stand.
     let mut current = [0u8; MOST_CURRENT];
     let mut terms: usize = 1;
     let mut entries = Entries::new();
     let mut guard: u64 = NO_INDEX;
     let mut at: usize = 0;
+    // Kept (point 3): the place goes on to the next instruction, as `turn` says, and not by one.
     while at < code.len() {
         let op = code[at];
         if EQI < op {
@@ -61,11 +63,10 @@ fn obeys(code: &[u32]) -> Result<(), Refusal>
         if op == SET {
             entries.enter(d, guard);
             guard = NO_INDEX;
-            at = turned.next;
         } else {
             guard = guard_of(code, at);
-            at = turned.next;
         }
+        at = turned.next;
     }
     Err(Refusal::DoesNotPass)
 }

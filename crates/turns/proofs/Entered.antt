@@ -62,9 +62,9 @@ module _ (e : Entries) (x : ℕ) where
   unfolding found_in
   found_missing h = rw (le-ltb x e.count h)
 
-  pub found_entry : x < e.count → Some at_place ≡ found_in e x
+  pub found_entry : {i b : ℕ} → (x < e.count) × (i ≡ e.count - 1 - x) → b ≡ get_or e.depths i 0 → found_in e x ≡ Some (record { depth = b; guard = get_or e.guards i 0 })
   unfolding found_in
-  found_entry h = rw (lt-ltb x e.count h)
+  found_entry h f = rw (lt-ltb x e.count h.0, f, h.1)
 
   -- the slot that was found
   pub found_none : found_in e x ≡ None → get_elem? (entries_of e) x ≡ none

@@ -1,5 +1,5 @@
 // The entries that the match part makes.
-ghost use Rattle.std.specs.Prelude.{◌≡◌, [], ◌∷◌, ℕ, ◌<◌, ◌≤◌, get_or};
+ghost use Rattle.std.specs.Prelude.{◌≡◌, [], ◌∷◌, ℕ, ◌-◌, ◌<◌, ◌≤◌, get_or, MatchOption};
 ghost use Rattle.documents.specs.Passing.{slot};
 ghost use Rattle.indices.specs.Sets.{members};
 
@@ -45,14 +45,21 @@ impl Entries {
         self.count += 1;
     }
 
-    // An entry, counted from the newest.
-    pub fn find(&self, x: u32) -> Option<Entry>
-        ensures { result ≡ found_in self.now x }
+    // Where an entry stands among so many, counted from the newest.
+    pub fn place(count: usize, x: u32) -> Option<usize>
+        ensures { MatchOption result (count ≤ x) (λ i. (x < count) × (i ≡ count - 1 - x)) }
     {
-        if self.count <= x as usize {
+        if count <= x as usize {
             return None;
         }
-        let i = self.count - 1 - x as usize;
+        Some(count - 1 - x as usize)
+    }
+
+    // An entry, counted from the newest.
+    pub fn find(self, x: u32) -> Option<Entry>
+        ensures { result ≡ found_in self x }
+    {
+        let i = Entries::place(self.count, x)?;
         Some(Entry {
             depth: u32::from(self.depths[i]),
             guard: self.guards[i],
@@ -60,8 +67,8 @@ impl Entries {
     }
 
     // Whether it is there, with this depth.
-    pub fn has_depth(&self, x: u32, d: u32) -> bool
-        ensures { result ≡ same_depth (found_in self.now x) d }
+    pub fn has_depth(self, x: u32, d: u32) -> bool
+        ensures { result ≡ same_depth (found_in self x) d }
     {
         match self.find(x) {
             Some(entry) => d == entry.depth,

@@ -4,7 +4,7 @@ use native.Mathlib.Omega.{arith}
 use Rattle.std.specs.Prelude.{Ok}
 use Rattle.std.proofs.lemmas.Result.{err_from_is_err_and}
 use Rattle.instructions.proofs.Reading.{fetched_is, fetched_op}
-use Rattle.turns.proofs.Entered.{found_low, found_none, found_slot}
+use Rattle.turns.proofs.Entered.{found_missing, found_entry, found_low, found_none, found_slot}
 use Rattle.turns.proofs.Turning.{fetched_refused}
 use Rattle.checker.specs.declared.build.Ended.TheVariants.{Done}
 use Rattle.checker.proofs.Ending.{entry_operand, entry_operands, ends_done, ends_unfetched, ends_shut, ends_closed, ends_block, going_block, block_inside, body_inside, shut_not, done_not, other_shut, other_done, ends_absent, ends_entry, entry_range, going_entry, ends_plain, going_plain, obey_bare, obey_all, obey_few, obey_long, obey_key, obey_deep, obey_bad, bodied_next}
@@ -77,22 +77,22 @@ build-loop-at-preserved-then-op-eq-LAMBDA t c = going_block c.loop-at.invariant 
 pub build-bounds-code-at-then-op-gt-PUSHVAR : goal.build-bounds-code-at-then-op-gt-PUSHVAR
 build-bounds-code-at-then-op-gt-PUSHVAR t c = let k = entry_operand c.loop-at.invariant c.loop-at-test.true c.requires.1 (sym c.fetch.ensures ∙ c.in_ok-next.was) c.if-op-gt-PUSHVAR.true in search rules
 
-pub build-returns-in_default-find : goal.build-returns-in_default-find
-build-returns-in_default-find t c = ends_absent c.loop-at.invariant c.loop-at-test.true c.requires.1 (sym c.fetch.ensures ∙ c.in_ok-next.was) c.if-op-gt-PUSHVAR.true (found_none _ _ (sym c.find.ensures ∙ c.in_default-find.is))
+pub build-returns-in_default-place : goal.build-returns-in_default-place
+build-returns-in_default-place t c = ends_absent c.loop-at.invariant c.loop-at-test.true c.requires.1 (sym c.fetch.ensures ∙ c.in_ok-next.was) c.if-op-gt-PUSHVAR.true (found_none _ _ (sym (found_missing c.args.entries _ c.in_default-place.ensures)))
 
 pub build-push-requires : goal.build-push-requires
-build-push-requires t c = let p = c.requires in let g = c.loop-at.invariant.grows in let m = c.decreases in let k = entry_operand c.loop-at.invariant c.loop-at-test.true c.requires.1 (sym c.fetch.ensures ∙ c.in_ok-next.was) c.if-op-gt-PUSHVAR.true in (omega arith, (omega arith, omega arith, entry_operands c.loop-at.invariant c.loop-at-test.true c.requires.1 (sym c.fetch.ensures ∙ c.in_ok-next.was) c.if-op-gt-PUSHVAR.true, p.1, p.2, sym c.find.ensures ∙ c.in-Some-find.is))
+build-push-requires t c = let p = c.requires in let g = c.loop-at.invariant.grows in let m = c.decreases in let k = entry_operand c.loop-at.invariant c.loop-at-test.true c.requires.1 (sym c.fetch.ensures ∙ c.in_ok-next.was) c.if-op-gt-PUSHVAR.true in (omega arith, (omega arith, omega arith, entry_operands c.loop-at.invariant c.loop-at-test.true c.requires.1 (sym c.fetch.ensures ∙ c.in_ok-next.was) c.if-op-gt-PUSHVAR.true, p.1, p.2, found_entry c.args.entries _ c.in-Some-place.ensures c.from.ensures))
 
 pub build-returns-in_err-at : goal.build-returns-in_err-at
 build-returns-in_err-at t c =
     let p = err_from_is_err_and c.from_residual-in_err-at.result c.from_residual-in_err-at.ensures.1 in
-    rw (p.1, p.2, entry_refused _ _ _ _ _ _ _ _ (sym c.push.ensures ∙ c.in_err-at.was)) (ends_entry c.loop-at.invariant c.loop-at-test.true c.requires.1 (sym c.fetch.ensures ∙ c.in_ok-next.was) c.if-op-gt-PUSHVAR.true refl (found_slot _ _ _ (sym c.find.ensures ∙ c.in-Some-find.is)) c.push.ensures _ c.in_err-at.was)
+    rw (p.1, p.2, entry_refused _ _ _ _ _ _ _ _ (sym c.push.ensures ∙ c.in_err-at.was)) (ends_entry c.loop-at.invariant c.loop-at-test.true c.requires.1 (sym c.fetch.ensures ∙ c.in_ok-next.was) c.if-op-gt-PUSHVAR.true refl (found_slot _ _ _ (found_entry c.args.entries _ c.in-Some-place.ensures c.from.ensures)) c.push.ensures _ c.in_err-at.was)
 
 pub build-loop-at-smaller-then-op-gt-PUSHVAR : goal.build-loop-at-smaller-then-op-gt-PUSHVAR
-build-loop-at-smaller-then-op-gt-PUSHVAR t c = let w = entry_range c.loop-at.invariant c.loop-at-test.true c.requires.1 (sym c.fetch.ensures ∙ c.in_ok-next.was) c.if-op-gt-PUSHVAR.true refl (found_slot _ _ _ (sym c.find.ensures ∙ c.in-Some-find.is)) c.push.ensures _ c.in_ok-at.was in omega arith
+build-loop-at-smaller-then-op-gt-PUSHVAR t c = let w = entry_range c.loop-at.invariant c.loop-at-test.true c.requires.1 (sym c.fetch.ensures ∙ c.in_ok-next.was) c.if-op-gt-PUSHVAR.true refl (found_slot _ _ _ (found_entry c.args.entries _ c.in-Some-place.ensures c.from.ensures)) c.push.ensures _ c.in_ok-at.was in omega arith
 
 pub build-loop-at-preserved-then-op-gt-PUSHVAR : goal.build-loop-at-preserved-then-op-gt-PUSHVAR
-build-loop-at-preserved-then-op-gt-PUSHVAR t c = going_entry c.loop-at.invariant c.loop-at-test.true c.requires.1 (sym c.fetch.ensures ∙ c.in_ok-next.was) c.if-op-gt-PUSHVAR.true refl (found_slot _ _ _ (sym c.find.ensures ∙ c.in-Some-find.is)) c.push.ensures _ c.in_ok-at.was
+build-loop-at-preserved-then-op-gt-PUSHVAR t c = going_entry c.loop-at.invariant c.loop-at-test.true c.requires.1 (sym c.fetch.ensures ∙ c.in_ok-next.was) c.if-op-gt-PUSHVAR.true refl (found_slot _ _ _ (found_entry c.args.entries _ c.in-Some-place.ensures c.from.ensures)) c.push.ensures _ c.in_ok-at.was
 
 pub build-plain-requires : goal.build-plain-requires
 build-plain-requires t c = let p = c.requires in let g = c.loop-at.invariant.grows in let w = c.loop-at.invariant.within in let k = fetched_is _ _ _ _ (sym c.fetch.ensures ∙ c.in_ok-next.was) in (omega arith, omega arith)

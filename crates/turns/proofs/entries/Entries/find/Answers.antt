@@ -1,10 +1,10 @@
 -- `Entries::find`: the entry stands at the count less one less x, if there are so many.
-use native.Mathlib.Omega.{arith}
+use mathlib.Core.Path.{sym}
 use Rattle.turns.proofs.Entered.{found_missing, found_entry}
 use Rattle.turns.proofs.entries.Entries.find.Goals as goal
 
-pub returns-then-self-x : goal.returns-then-self-x
-returns-then-self-x c = found_missing _ _ c.if-self-x.true
+pub returns-in_err-i : goal.returns-in_err-i
+returns-in_err-i c = rw c.from_residual.ensures (found_missing _ _ c.in_err-i.ensures)
 
 pub returns : goal.returns
-returns c = rw c.from.ensures (found_entry c.args.self.now c.args.x (omega arith))
+returns c = sym (found_entry c.args.self c.args.x c.in_ok-i.ensures c.from.ensures)
