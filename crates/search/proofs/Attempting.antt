@@ -11,6 +11,7 @@ use lib.Dec.{ltb}
 use lib.ListN.{length, get_or, get_elem?}
 use lib.Pow.{pow-add, pow_pos, pow_mono, split}
 use borrow.Author.Tests.{ne_eqb, ltb-true, ltb-false}
+use Rattle.std.specs.Prelude.{Result, Ok, Err, Some, None}
 use Rattle.documents.specs.declared.Refusal.{Refusal}
 use Rattle.documents.specs.Terms.{Term}
 use Rattle.documents.specs.Instructions.{Program}
@@ -24,11 +25,9 @@ use Rattle.indices.specs.Sets.{has}
 use Rattle.rewriting.specs.Rewrites.{by_first_rule}
 use Rattle.rewriting.proofs.FirstRule.{rule_by, rule_no}
 use Rattle.matcher.specs.declared.Matched.{Matched}
-use Rattle.matcher.specs.declared.Matched.TheVariants as matched
 use Rattle.matcher.specs.Ready.{Ready, ComesTo, Comes}
 use Rattle.rule_table.specs.Places.{code_at}
 use Rattle.rule_table.proofs.Placed.{below_member, placed_below, placed_inside, placed_passes, placed_holds}
-use Rattle.search.specs.declared.Tried.TheVariants as tried
 use Rattle.search.specs.Searches.{Trying, Tries}
 use Rattle.search.proofs.Lowest.{below_lowest, lowest_bit}
 
@@ -142,7 +141,7 @@ module _ {rules starts : List ℕ} {set : ℕ} {part entries now : List ℕ} {le
   next_rule : (c : Program) × (get_elem? cs (rule + count_trailing_zeros 32 left) ≡ some c)
   next_rule = below_member cs (rule + count_trailing_zeros 32 left) next_below
 
-comes_same : (code part then : List ℕ) (c : Program) {r x : Matched} → r ≡ x → ComesTo code part then c r → ComesTo code part then c x
+comes_same : (code part then : List ℕ) (c : Program) {r x : Result Matched Refusal} → r ≡ x → ComesTo code part then c r → ComesTo code part then c x
 comes_same code part then c e k = rw e at k
 
 -- what is asked on the way to trying it
@@ -165,7 +164,7 @@ module _ {rules starts : List ℕ} {set : ℕ} {part entries now : List ℕ} {le
         passed = placed_passes rules starts cs t.places (rule + count_trailing_zeros 32 left) n.0 n.1;
       })
 
-  module _ {gap : ℕ} (g : gap ≡ count_trailing_zeros 32 left) {code then : List ℕ} {r : Matched} (is : code ≡ code_at rules (get_or starts (rule + gap) 0)) (m : Comes code part then r) (l : length then ≡ 16) where
+  module _ {gap : ℕ} (g : gap ≡ count_trailing_zeros 32 left) {code then : List ℕ} {r : Result Matched Refusal} (is : code ≡ code_at rules (get_or starts (rule + gap) 0)) (m : Comes code part then r) (l : length then ≡ 16) where
     comes_to : (cs : List Program) (t : Trying rules starts set part entries cs)
         → (c : Program) × (get_elem? cs (rule + gap) ≡ some c) × ComesTo (code_at rules (get_or starts (rule + gap) 0)) part then c r
     comes_to cs t =
@@ -173,11 +172,11 @@ module _ {rules starts : List ℕ} {set : ℕ} {part entries now : List ℕ} {le
         (n.0, n.1, (rw is at m).means n.0 (placed_holds rules starts cs t.places (rule + gap) n.0 n.1))
 
     -- it matches
-    pub attempt_matches : {at made words : ℕ} → r ≡ matched.Build at made words → Tries rules starts set part entries then (tried.Rule (rule + gap) at made words)
-    attempt_matches {at} {made} {words} e = record {
+    pub attempt_matches : {matched : Matched} → r ≡ Ok matched → Tries rules starts set part entries then (Some (record { rule = rule + gap; matched = matched }))
+    attempt_matches {matched} e = record {
       long = l;
       says = λ cs t. let n = comes_to cs t in
-          let k = comes_same (code_at rules (get_or starts (rule + gap) 0)) part then n.0 {x = matched.Build at made words} e n.2 in
+          let k = comes_same (code_at rules (get_or starts (rule + gap) 0)) part then n.0 {x = Ok matched} e n.2 in
           record {
             program = n.0;
             listed = n.1;
@@ -190,7 +189,7 @@ module _ {rules starts : List ℕ} {set : ℕ} {part entries now : List ℕ} {le
     }
 
     -- it fails: the rules behind it are left
-    pub attempt_misses : {w : Refusal} → r ≡ matched.Refused w → Attempting rules starts set part entries then (left / 2 ^ gap / 2) (rule + gap + 1)
+    pub attempt_misses : {w : Refusal} → r ≡ Err w → Attempting rules starts set part entries then (left / 2 ^ gap / 2) (rule + gap + 1)
     attempt_misses {w} e = record {
       room = l;
       left_is = shifted left gap 1 ∙ (ap (λ (m : ℕ). m / 2 ^ (gap + 1)) a.left_is ∙ (shifted set rule (gap + 1) ∙ ap (λ (k : ℕ). set / 2 ^ k) (omega arith)));
@@ -203,13 +202,13 @@ module _ {rules starts : List ℕ} {set : ℕ} {part entries now : List ℕ} {le
         go cs t i c h q false b =
             let z : i ≡ rule + gap = let f = ltb-false i (rule + gap) b in omega arith in
             let n = comes_to cs t in
-            let k = comes_same (code_at rules (get_or starts (rule + gap) 0)) part then n.0 {x = matched.Refused w} e n.2 in
+            let k = comes_same (code_at rules (get_or starts (rule + gap) 0)) part then n.0 {x = Err w} e n.2 in
             let s : c ≡ n.0 = some-injective c n.0 (sym q ∙ (ap (get_elem? cs) z ∙ n.1)) in
             rw s k.1
 
 -- no rule is left
 pub attempt_ends : {rules starts : List ℕ} {set : ℕ} {part entries now : List ℕ} {left rule : ℕ} → Attempting rules starts set part entries now left rule → left ≡ 0
-    → Tries rules starts set part entries now tried.No
+    → Tries rules starts set part entries now None
 attempt_ends a z = record { long = a.room; says = λ cs t. attempt_none a cs t z }
 
 -- a set without rules needs no look

@@ -6,6 +6,8 @@ use native.Mathlib.Omega.{arith}
 use mathlib.Core.Option.{none, some}
 use mathlib.Core.List.{List}
 use lib.ListN.{length, get_or, drop, set, replicate}
+use Rattle.std.specs.Prelude
+use Rattle.std.specs.Prelude.{Result, Ok, Err, Some, None}
 use Rattle.documents.specs.Terms.{Term}
 use Rattle.documents.specs.Tables.{nodes, subterm}
 use Rattle.documents.specs.Instructions.{Program}
@@ -23,12 +25,8 @@ use Rattle.rule_table.specs.Places.{Places}
 use Rattle.dispatch.specs.Sorted.{Sorted, Candidates}
 use Rattle.levels.specs.Levels.{Above}
 use Rattle.levels.proofs.Above.{above_node, above_back, Looked, looked_starts, looked_here, looked_further, looked_all}
-use Rattle.rewriter.specs.declared.Redex.{Redex}
 use Rattle.search.specs.declared.Tried.{Tried}
-use Rattle.search.specs.declared.Tried.TheVariants as tried
-use Rattle.search.specs.declared.Found.{Found}
-use Rattle.search.specs.declared.Found.TheVariants as found
-use Rattle.search.specs.Searches.{Trying, TriedAs, Tries, Searching, Redexed, Finds, FoundAbove, FindsAbove}
+use Rattle.search.specs.Searches.{redex_of, Trying, TriedAs, Tries, Searching, Redexed, Finds, FindsAbove}
 use Rattle.search.proofs.Attempting.{none_tried}
 
 -- ---- A node of a plan, and the part that begins there
@@ -59,17 +57,17 @@ module _ {rules starts roots seconds plan : List ℕ} {node set : ℕ} (h : Here
   pub trying_part : {cs : List Program} → Places rules starts cs → Sorted cs roots seconds → Trying rules starts set (parts.from (2 * node) plan) now cs
   trying_part p s = rw (from_drop (2 * node) plan) (trying p s)
 
-  module _ {then : List ℕ} {r : Tried} (t : Tries rules starts set (parts.from (2 * node) plan) now then r) {cs : List Program} (p : Places rules starts cs) (s : Sorted cs roots seconds) where
+  module _ {then : List ℕ} {r : Prelude.Option Tried} (t : Tries rules starts set (parts.from (2 * node) plan) now then r) {cs : List Program} (p : Places rules starts cs) (s : Sorted cs roots seconds) where
     tried_as : TriedAs rules starts (drop (2 * node) plan) then cs r
     tried_as = let x : Tries rules starts set (drop (2 * node) plan) now then r = rw (from_drop (2 * node) plan) at t in x.says cs (trying p s)
 
-    no_match_lem : r ≡ tried.No → by_first_rule cs h.old ≡ none
-    no_match_lem e = let x : TriedAs rules starts (drop (2 * node) plan) then cs tried.No = rw e at tried_as in rw h.is_front at x
+    no_match_lem : r ≡ None → by_first_rule cs h.old ≡ none
+    no_match_lem e = let x : TriedAs rules starts (drop (2 * node) plan) then cs None = rw e at tried_as in rw h.is_front at x
 
-    redexed : {above : List ℕ} {i at made words level : ℕ} → r ≡ tried.Rule i at made words → {mark : ℕ} → Searched (by_first_rule cs) (front plan) mark node → Above plan node above level
-        → Redexed rules starts plan above then cs (record { node = node; level = level; words = words; rule = i; build = at; entries = made })
-    redexed {i = i} {at = at} {made = made} {words = words} e q a =
-        let x : TriedAs rules starts (drop (2 * node) plan) then cs (tried.Rule i at made words) = rw e at tried_as in
+    redexed : {above : List ℕ} {tried : Tried} {level : ℕ} → r ≡ Some tried → {mark : ℕ} → Searched (by_first_rule cs) (front plan) mark node → Above plan node above level
+        → Redexed rules starts plan above then cs (redex_of node level tried)
+    redexed {tried = tried} e q a =
+        let x : TriedAs rules starts (drop (2 * node) plan) then cs (Some tried) = rw e at tried_as in
         record { old = h.old; here = h.there; is_front = h.is_front; earlier = q.passed; matches = x; above_is = a }
 
 -- no candidate, no match
@@ -122,16 +120,16 @@ module _ {rules starts roots seconds plan : List ℕ} {from : ℕ} {above : List
       pub looking_on : 2 * node < length plan → set ≡ 0 → LookingFrom rules starts roots seconds plan from above level entries now (node + 1)
       looking_on q z = one_more a.room q (λ cs s. no_candidate h k z s.places s.sorted)
 
-      module _ {then : List ℕ} {r : Tried} (t : Tries rules starts set (parts.from (2 * node) plan) now then r) where
-        pub looking_missed : 2 * node < length plan → r ≡ tried.No → LookingFrom rules starts roots seconds plan from above level entries then (node + 1)
+      module _ {then : List ℕ} {r : Prelude.Option Tried} (t : Tries rules starts set (parts.from (2 * node) plan) now then r) where
+        pub looking_missed : 2 * node < length plan → r ≡ None → LookingFrom rules starts roots seconds plan from above level entries then (node + 1)
         looking_missed q e = one_more t.long q (λ cs s. no_match_lem h k a.room t s.places s.sorted e)
 
-        pub looking_found : {i at made words there : ℕ} {above' : List ℕ} → r ≡ tried.Rule i at made words → Above plan node above' there
-            → Finds rules starts roots seconds plan from above above' level entries then from (found.At (record { node = node; level = there; words = words; rule = i; build = at; entries = made }))
+        pub looking_found : {tried : Tried} {there : ℕ} {above' : List ℕ} → r ≡ Some tried → Above plan node above' there
+            → Finds rules starts roots seconds plan from above above' level entries then from (Some (redex_of node there tried))
         looking_found e b = record { long = t.long; says = λ cs s. redexed h k a.room t s.places s.sorted e (a.searched cs s) b }
 
   pub looking_ends : {now : List ℕ} {node : ℕ} → LookingFrom rules starts roots seconds plan from above level entries now node → length plan ≤ 2 * node
-      → Finds rules starts roots seconds plan from above above level entries now from found.Nowhere
+      → Finds rules starts roots seconds plan from above above level entries now from None
   looking_ends {node = node} a q = record {
     long = a.room;
     says = λ cs s. once_ends cs (front plan) from node (a.searched cs s) (let w = a.words in omega arith);
@@ -157,42 +155,22 @@ module _ {rules starts roots seconds plan : List ℕ} {from : ℕ} {above : List
     above_here n b = let k = above_node b i a.first q in here_of b.accepted _ k.1.0 (rw n k.1.1)
 
     module _ {node : ℕ} (n : node ≡ get_or above i 0 / 16) (h : Here plan node) {few : ℕ} (k : (cs : List Program) → Sorted cs roots seconds → Candidates cs (front (drop (2 * node) plan)) few)
-        {then : List ℕ} {r : Tried} (t : Tries rules starts few (parts.from (2 * node) plan) now then r) where
-      pub above_missed : r ≡ tried.No → LookingAbove rules starts roots seconds plan from above level entries then (i + 1)
+        {then : List ℕ} {r : Prelude.Option Tried} (t : Tries rules starts few (parts.from (2 * node) plan) now then r) where
+      pub above_missed : r ≡ None → LookingAbove rules starts roots seconds plan from above level entries then (i + 1)
       above_missed e = record {
         room = t.long;
         first = omega arith;
         looked = λ cs s. looked_further (a.looked cs s) h.old (rw n at h.there) (no_match_lem h k a.room t s.places s.sorted e);
       }
 
-      pub above_found : {m at made words : ℕ} → r ≡ tried.Rule m at made words
+      pub above_found : {tried : Tried} → r ≡ Some tried
           → FindsAbove rules starts roots seconds plan from above (set above (i - 1) (get_or above (i - 1) 0 + 1)) level entries then
-          (found.At (record { node = node; level = i; words = words; rule = m; build = at; entries = made }))
+          (Some (redex_of node i tried))
       above_found e = record {
         long = t.long;
         says = λ cs s. redexed h k a.room t s.places s.sorted e {mark = from} (rw n (looked_here (a.looked cs s) q)) (rw n (above_back s.above_is i a.first q).1);
       }
 
   pub above_ends : {now : List ℕ} {i : ℕ} → LookingAbove rules starts roots seconds plan from above level entries now i → level ≤ i
-      → FindsAbove rules starts roots seconds plan from above above level entries now found.Nowhere
+      → FindsAbove rules starts roots seconds plan from above above level entries now None
   above_ends a q = record { long = a.room; says = λ cs s. (refl, looked_all (a.looked cs s) q) }
-
-  -- ---- Both
-
-  module _ {above' entries' : List ℕ} where
-    pub found_above : {r : Found} {x : Redex} → FindsAbove rules starts roots seconds plan from above above' level entries entries' r → r ≡ found.At x
-        → Finds rules starts roots seconds plan from above above' level entries entries' 0 r
-    found_above {r} {x} f e = rw e (record { long = f.long; says = λ cs s. let y : FoundAbove rules starts plan from above above' entries' cs (found.At x) = rw e at (f.says cs s) in y })
-
-    module _ {r : Found} (f : FindsAbove rules starts roots seconds plan from above above' level entries entries' r) (e : r ≡ found.Nowhere) where
-      nowhere_above : {cs : List Program} → Searching rules starts roots seconds plan from above level entries 0 cs → Searching rules starts roots seconds plan from above' level entries' from cs
-      nowhere_above {cs} s =
-          let y : FoundAbove rules starts plan from above above' entries' cs found.Nowhere = rw e at (f.says cs s) in
-          record { places = s.places; sorted = s.sorted; above_is = rw y.0 s.above_is; searched = y.1; room = f.long }
-
-      pub then_from : (p : (cs : List Program) × Searching rules starts roots seconds plan from above level entries 0 cs) → (cs : List Program) × Searching rules starts roots seconds plan from above' level entries' from cs
-      then_from (cs, s) = (cs, nowhere_above s)
-
-      pub found_from : {above'' entries'' : List ℕ} {x : Found} → Finds rules starts roots seconds plan from above' above'' level entries' entries'' from x
-          → Finds rules starts roots seconds plan from above above'' level entries entries'' 0 x
-      found_from g = record { long = g.long; says = λ cs s. g.says cs (nowhere_above s) }

@@ -1,5 +1,5 @@
 -- What the search for the next rewrite relies on, and what it finds: at one node, and over a plan. A plan is exactly the words of an accepted subject.
-use Rattle.std.specs.Prelude.{◌≡◌, ℕ, ◌*◌, List, length, get_or, drop}
+use Rattle.std.specs.Prelude.{◌≡◌, ℕ, ◌*◌, List, length, get_or, drop, Option, Some, None}
 use Rattle.std.proofs.Math.Option.{none, some}
 use Rattle.std.proofs.Math.ListN.{get_elem?}
 use Rattle.documents.specs.Terms.{Term}
@@ -16,10 +16,9 @@ use Rattle.rule_table.specs.Places.{code_at, Places}
 use Rattle.dispatch.specs.Sorted.{Sorted, Candidates}
 use Rattle.levels.specs.Levels.{Above}
 use Rattle.rewriter.specs.declared.Redex.{Redex}
+use Rattle.levels.specs.declared.Levels.{Levels}
 use Rattle.search.specs.declared.Tried.{Tried}
-use Rattle.search.specs.declared.Tried.TheVariants as tried
-use Rattle.search.specs.declared.Found.{Found}
-use Rattle.search.specs.declared.Found.TheVariants as found
+use Rattle.search.specs.declared.Rules.{Rules}
 
 -- ---- At one node
 
@@ -41,12 +40,12 @@ module _ (rules starts part entries : List ℕ) (cs : List Program) where
     pub makes : machine.made (run program (front part)) ≡ some new
     pub first : by_first_rule cs (front part) ≡ some new
 
-  abbrev pub TriedAs : Tried → Type 0
-  TriedAs (tried.Rule i at made words) = Matches i at made words
-  TriedAs tried.No = by_first_rule cs (front part) ≡ none
+  abbrev pub TriedAs : Option Tried → Type 0
+  TriedAs (Some t) = Matches t.rule t.matched.build t.matched.entries t.matched.words
+  TriedAs None = by_first_rule cs (front part) ≡ none
 
 -- whichever programs the rules are
-pub record Tries (rules starts : List ℕ) (set : ℕ) (part entries entries' : List ℕ) (r : Tried) : Type 0 where
+pub record Tries (rules starts : List ℕ) (set : ℕ) (part entries entries' : List ℕ) (r : Option Tried) : Type 0 where
   pub long : length entries' ≡ 16
   pub says : (cs : List Program) → Trying rules starts set part entries cs → TriedAs rules starts part entries' cs r
 
@@ -70,20 +69,43 @@ module _ (rules starts plan above entries : List ℕ) (cs : List Program) where
     pub matches : Matches rules starts (drop (2 * r.node) plan) entries cs r.rule r.build r.entries r.words
     pub above_is : Above plan r.node above r.level
 
-  abbrev pub FoundAs : Found → Type 0
-  FoundAs (found.At r) = Redexed r
-  FoundAs found.Nowhere = once cs (front plan) ≡ none
+  abbrev pub FoundAs : Option Redex → Type 0
+  FoundAs (Some r) = Redexed r
+  FoundAs None = once cs (front plan) ≡ none
 
 -- from the root on, or from that node on
-pub record Finds (rules starts roots seconds plan : List ℕ) (from : ℕ) (above above' : List ℕ) (level : ℕ) (entries entries' : List ℕ) (looked : ℕ) (r : Found) : Type 0 where
+pub record Finds (rules starts roots seconds plan : List ℕ) (from : ℕ) (above above' : List ℕ) (level : ℕ) (entries entries' : List ℕ) (looked : ℕ) (r : Option Redex) : Type 0 where
   pub long : length entries' ≡ 16
   pub says : (cs : List Program) → Searching rules starts roots seconds plan from above level entries looked cs → FoundAs rules starts plan above' entries' cs r
 
 -- of the nodes above alone: where none of them matches, none before that node does
-abbrev pub FoundAbove : (rules starts plan : List ℕ) (from : ℕ) (above above' entries' : List ℕ) (cs : List Program) → Found → Type 0
-FoundAbove rules starts plan from above above' entries' cs (found.At r) = Redexed rules starts plan above' entries' cs r
-FoundAbove rules starts plan from above above' entries' cs found.Nowhere = (above' ≡ above) × Searched (by_first_rule cs) (front plan) from from
+abbrev pub FoundAbove : (rules starts plan : List ℕ) (from : ℕ) (above above' entries' : List ℕ) (cs : List Program) → Option Redex → Type 0
+FoundAbove rules starts plan from above above' entries' cs (Some r) = Redexed rules starts plan above' entries' cs r
+FoundAbove rules starts plan from above above' entries' cs None = (above' ≡ above) × Searched (by_first_rule cs) (front plan) from from
 
-pub record FindsAbove (rules starts roots seconds plan : List ℕ) (from : ℕ) (above above' : List ℕ) (level : ℕ) (entries entries' : List ℕ) (r : Found) : Type 0 where
+pub record FindsAbove (rules starts roots seconds plan : List ℕ) (from : ℕ) (above above' : List ℕ) (level : ℕ) (entries entries' : List ℕ) (r : Option Redex) : Type 0 where
   pub long : length entries' ≡ 16
   pub says : (cs : List Program) → Searching rules starts roots seconds plan from above level entries 0 cs → FoundAbove rules starts plan from above above' entries' cs r
+
+-- ---- The same of what the search is handed: the rules as one, and the words above with their level
+
+-- a node where a rule matches
+abbrev pub redex_of : ℕ → ℕ → Tried → Redex
+redex_of node level t = record { node = node; level = level; words = t.matched.words; rule = t.rule; build = t.matched.build; entries = t.matched.entries }
+
+module _ (rules : Rules) where
+  abbrev pub TryingIn : (set : ℕ) (part entries : List ℕ) (cs : List Program) → Type 0
+  TryingIn = Trying rules.table.now rules.starts.now
+
+  abbrev pub TriesIn : (set : ℕ) (part entries entries' : List ℕ) (r : Option Tried) → Type 0
+  TriesIn = Tries rules.table.now rules.starts.now
+
+  module _ (plan : List ℕ) (from : ℕ) where
+    abbrev pub SearchingIn : (above : Levels) (entries : List ℕ) (looked : ℕ) (cs : List Program) → Type 0
+    SearchingIn above = Searching rules.table.now rules.starts.now rules.buckets.now.roots rules.buckets.now.seconds plan from above.words above.level
+
+    abbrev pub FindsIn : (above above' : Levels) (entries entries' : List ℕ) (looked : ℕ) (r : Option Redex) → Type 0
+    FindsIn above above' = Finds rules.table.now rules.starts.now rules.buckets.now.roots rules.buckets.now.seconds plan from above.words above'.words above.level
+
+    abbrev pub FindsAboveIn : (above above' : Levels) (entries entries' : List ℕ) (r : Option Redex) → Type 0
+    FindsAboveIn above above' = FindsAbove rules.table.now rules.starts.now rules.buckets.now.roots rules.buckets.now.seconds plan from above.words above'.words above.level

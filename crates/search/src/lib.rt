@@ -2,146 +2,142 @@
 // are looked at: the others before it end before it, and are as they were (001: 'known to be in simplest form').
 #![tactic(auto)]
 
-ghost use Rattle.std.specs.Prelude.{List};
+ghost use Rattle.std.specs.Prelude.{◌≡◌, List, IfSome, IfNone, get_or};
 ghost use Rattle.documents.specs.Instructions.{Program};
-ghost use Rattle.search.specs.Searches.{Trying, Tries, Searching, Finds, FindsAbove};
+ghost use Rattle.rule_table.specs.Places.{code_at};
+ghost use Rattle.search.specs.Rules.{HasRule};
+ghost use Rattle.search.specs.Searches.{redex_of, TryingIn, TriesIn, SearchingIn, FindsIn, FindsAboveIn};
 
-use dispatch::{MASKS, candidates};
-use levels::{LEVELS, go, node_of};
+use dispatch::Buckets;
+use levels::{Levels, node_of};
 use matcher::{Matched, match_part};
 use rewriter::Redex;
 use rule_table::code_at;
 
-#[derive(Drop)]
-pub enum Found {
-    At(Redex),
-    Nowhere,
+// Good rules: their table, where each stands in it, and what they ask of a node.
+#[derive(Clone, Copy)]
+pub struct Rules<'a> {
+    pub table: &'a [u32],
+    pub starts: &'a [usize],
+    pub buckets: &'a Buckets,
 }
 
-// What the rules do at one node: the first that matches, where its build part begins, how many entries it made, the words of the node's term.
-#[derive(Drop)]
-pub enum Tried {
-    Rule(usize, usize, usize, usize),
-    No,
+impl<'a> Rules<'a> {
+    pub fn code(self, rule: usize) -> &'a [u32]
+        requires { HasRule self rule }
+        ensures { result.now ≡ code_at self.entry.table.now (get_or self.entry.starts.now rule 0) }
+    {
+        code_at(self.table, self.starts[rule])
+    }
+}
+
+// What the rules do at one node: the first that matches, and what its match part came to.
+#[derive(Clone, Copy)]
+pub struct Tried {
+    pub rule: usize,
+    pub matched: Matched,
 }
 
 // The nodes above the one that was rewritten last, the root first; then those from there on.
 pub fn search(
-    rules: &[u32],
-    starts: &[usize],
-    roots: &[u32; MASKS],
-    seconds: &[u32; MASKS],
+    rules: Rules,
     plan: &[u32],
     from: usize,
-    above: &mut [u32; LEVELS],
-    level: usize,
+    above: &mut Levels,
     entries: &mut [u32],
-) -> Found
-    requires { (cs : List Program) × Searching rules.now starts.now roots.now seconds.now plan.now from above.old level entries.old 0 cs }
-    ensures { Finds rules.now starts.now roots.now seconds.now plan.now from above.old above.new level entries.old entries.new 0 result }
+) -> Option<Redex>
+    requires { (cs : List Program) × SearchingIn rules plan.now from above.old entries.old 0 cs }
+    ensures finds { FindsIn rules.entry plan.now from above.old above.new entries.old entries.new 0 result }
+    ensures level { IfSome result (λ redex. above.new.level ≡ redex.level) }
 {
-    let found = search_above(
-        rules, starts, roots, seconds, plan, from, above, level, entries,
-    );
-    let Found::Nowhere = found else {
+    let found = search_above(rules, plan, from, above, entries);
+    if found.is_some() {
         return found;
-    };
-    search_from(
-        rules, starts, roots, seconds, plan, from, above, level, entries,
-    )
+    }
+    search_from(rules, plan, from, above, entries)
 }
 
 // The nodes above, the root first. Where none of them matches, no node before the one that was rewritten last does.
 fn search_above(
-    rules: &[u32],
-    starts: &[usize],
-    roots: &[u32; MASKS],
-    seconds: &[u32; MASKS],
+    rules: Rules,
     plan: &[u32],
     from: usize,
-    above: &mut [u32; LEVELS],
-    level: usize,
+    above: &mut Levels,
     entries: &mut [u32],
-) -> Found
-    requires { (cs : List Program) × Searching rules.now starts.now roots.now seconds.now plan.now from above.old level entries.old 0 cs }
-    ensures { FindsAbove rules.now starts.now roots.now seconds.now plan.now from above.old above.new level entries.old entries.new result }
+) -> Option<Redex>
+    requires { (cs : List Program) × SearchingIn rules plan.now from above.old entries.old 0 cs }
+    ensures finds { FindsAboveIn rules.entry plan.now from above.old above.new entries.old entries.new result }
+    ensures level { IfSome result (λ redex. above.new.level ≡ redex.level) }
+    ensures stays { IfNone result (above.new ≡ above.old) }
 {
-    let mut i: usize = 1;
-    while i < level {
-        let node = node_of(above[i]);
-        let set = candidates(roots, seconds, plan, 2 * node);
-        let tried = attempt(rules, starts, set, &plan[2 * node..], entries);
-        if let Tried::Rule(rule, build, made, words) = tried {
+    for level in 1..above.level {
+        let node = node_of(above.words[level]);
+        let set = rules.buckets.candidates(plan, 2 * node);
+        if let Some(tried) = attempt(rules, set, &plan[2 * node..], entries) {
             // It is at hand again, and so still to begin for the node above it.
-            above[i - 1] += 1;
-            return Found::At(Redex {
-                node,
-                level: i,
-                words,
-                rule,
-                build,
-                entries: made,
-            });
+            above.words[level - 1] += 1;
+            above.level = level;
+            return Some(redex(node, level, tried));
         }
-        i += 1;
     }
-    Found::Nowhere
+    None
 }
 
 // From that node on, to the end of the plan.
 fn search_from(
-    rules: &[u32],
-    starts: &[usize],
-    roots: &[u32; MASKS],
-    seconds: &[u32; MASKS],
+    rules: Rules,
     plan: &[u32],
     from: usize,
-    above: &mut [u32; LEVELS],
-    level: usize,
+    above: &mut Levels,
     entries: &mut [u32],
-) -> Found
-    requires { (cs : List Program) × Searching rules.now starts.now roots.now seconds.now plan.now from above.old level entries.old from cs }
-    ensures { Finds rules.now starts.now roots.now seconds.now plan.now from above.old above.new level entries.old entries.new from result }
+) -> Option<Redex>
+    requires { (cs : List Program) × SearchingIn rules plan.now from above.old entries.old from cs }
+    ensures finds { FindsIn rules.entry plan.now from above.old above.new entries.old entries.new from result }
+    ensures level { IfSome result (λ redex. above.new.level ≡ redex.level) }
 {
-    let mut node = from;
-    while 2 * node < plan.len() {
-        let set = candidates(roots, seconds, plan, 2 * node);
+    for node in from..plan.len() / 2 {
+        let set = rules.buckets.candidates(plan, 2 * node);
         if set == 0 {
-            node += 1;
             continue;
         }
-        let tried = attempt(rules, starts, set, &plan[2 * node..], entries);
-        if let Tried::Rule(rule, build, made, words) = tried {
-            return Found::At(Redex {
-                node,
-                level: go(plan, from, node, above, level),
-                words,
-                rule,
-                build,
-                entries: made,
-            });
+        if let Some(tried) = attempt(rules, set, &plan[2 * node..], entries) {
+            above.go(plan, from, node);
+            return Some(redex(node, above.level, tried));
         }
-        node += 1;
     }
-    Found::Nowhere
+    None
+}
+
+// A node where a rule matches.
+fn redex(node: usize, level: usize, tried: Tried) -> Redex
+    ensures { result ≡ redex_of node level tried }
+{
+    let Tried { rule, matched } = tried;
+    Redex {
+        node,
+        level,
+        words: matched.words,
+        rule,
+        build: matched.build,
+        entries: matched.entries,
+    }
 }
 
 // The first rule of a set that matches the term which a part begins with. `left` is the set without the rules before `rule`, whose bit is the lowest.
-fn attempt(rules: &[u32], starts: &[usize], set: u32, part: &[u32], entries: &mut [u32]) -> Tried
-    requires { (cs : List Program) × Trying rules.now starts.now set part.now entries.old cs }
-    ensures { Tries rules.now starts.now set part.now entries.old entries.new result }
+fn attempt(rules: Rules, set: u32, part: &[u32], entries: &mut [u32]) -> Option<Tried>
+    requires { (cs : List Program) × TryingIn rules set part.now entries.old cs }
+    ensures { TriesIn rules.entry set part.now entries.old entries.new result }
 {
     let mut left = set;
     let mut rule: usize = 0;
     while left != 0 {
         let gap = u32::trailing_zeros(left);
         rule += gap as usize;
-        let code = code_at(rules, starts[rule]);
-        if let Matched::Build(build, made, words) = match_part(code, part, entries) {
-            return Tried::Rule(rule, build, made, words);
+        if let Ok(matched) = match_part(rules.code(rule), part, entries) {
+            return Some(Tried { rule, matched });
         }
         rule += 1;
         left = left >> gap >> 1;
     }
-    Tried::No
+    None
 }
