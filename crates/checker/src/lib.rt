@@ -55,6 +55,7 @@ fn obeys(code: &[u32]) -> Result<(), Refusal>
         }
         let top = terms - 1;
         let d = current[top];
+        // Kept (point 1): 01 wants a `let .. else` here (docs/PROMISES.md, last table); `?` is in all below.
         let Ok(turned) = turn(code, at, entries, d, top) else {
             return Err(Refusal::DoesNotPass);
         };
