@@ -6,6 +6,7 @@ use mathlib.Core.List.{List, [], ◌∷◌}
 use lib.Dec.{leb}
 use lib.ListN.{length, replicate}
 use borrow.Author.Tests.{le-leb, lt-leb}
+use Rattle.std.specs.Prelude.{Result, Err}
 use Rattle.documents.specs.declared.Refusal.{Refusal}
 use Rattle.documents.specs.declared.Refusal.TheVariants.{ListTooLong, WorkingTableShort}
 use Rattle.documents.specs.Limits.{plan_limit}
@@ -14,46 +15,43 @@ use Rattle.documents.specs.Instructions.{Program}
 use Rattle.documents.specs.Numbers.{Answer, answered, refused, with, subject_in, result_for}
 use Rattle.documents.specs.Calls.{zeros}
 use Rattle.documents.proofs.Lists.{never}
-use Rattle.tables.specs.declared.accept.Sized.{Sized}
-use Rattle.tables.specs.declared.accept.Sized.TheVariants as sized
 use Rattle.tables.specs.Parts.{front}
 use Rattle.tables.specs.Answers.{sized}
 use Rattle.rewriting.specs.Rewrites.{plans}
 use Rattle.rewriting.specs.RuleTable.{listed, rules_in}
 use Rattle.rewriting.specs.ListCall.{rule_limit, plans_for, Rewritten, rewritten, rewrites, list_runs, list_answer, list_call}
 use Rattle.list_run.specs.declared.Ended.{Ended}
-use Rattle.list_run.specs.declared.Ended.TheVariants as ended
 use Rattle.list_run.specs.Answers.{given, Applied}
 
 -- ---- 37, 16, 11, and the subject's refusals
 
 module _ (rules subject : List ℕ) (number : ℕ) (work result : List ℕ) where
-  pub list_many : 1000 < number → given (ended.Refused ListTooLong) (zeros work) result ≡ list_call rules subject number work result
+  pub list_many : 1000 < number → given (Err ListTooLong) (zeros work) result ≡ list_call rules subject number work result
   unfolding list_call list_runs
   list_many h = rw (lt-leb number 1000 h, and-false (leb (length (listed rules)) rule_limit))
 
-  pub list_over : leb (length (listed rules)) rule_limit ≡ false → given (ended.Refused ListTooLong) (zeros work) result ≡ list_call rules subject number work result
+  pub list_over : leb (length (listed rules)) rule_limit ≡ false → given (Err ListTooLong) (zeros work) result ≡ list_call rules subject number work result
   unfolding list_call list_runs
   list_over e = rw e
 
   module _ (few : leb (length (listed rules)) rule_limit ≡ true) (allowed : number ≤ 1000) where
-    pub list_short : length work < 16384 → given (ended.Refused WorkingTableShort) (zeros work) result ≡ list_call rules subject number work result
+    pub list_short : length work < 16384 → given (Err WorkingTableShort) (zeros work) result ≡ list_call rules subject number work result
     unfolding list_call list_runs
     list_short h = rw (few, le-leb number 1000 allowed, lt-leb 16384 (length work) h)
 
     module _ (long : 16384 ≤ length work) where
-      pub list_bad : {w : Refusal} → rules_in rules ≡ refused w → given (ended.Refused w) (zeros work) result ≡ list_call rules subject number work result
+      pub list_bad : {w : Refusal} → rules_in rules ≡ refused w → given (Err w) (zeros work) result ≡ list_call rules subject number work result
       unfolding list_call list_runs
       list_bad e = rw (few, le-leb number 1000 allowed, le-leb 16384 (length work) long, e)
 
       module _ {cs : List Program} (good : rules_in rules ≡ answered cs) where
-        pub list_refused : {r : Sized} {w : Refusal} → r ≡ sized (subject_in subject) → r ≡ sized.Refused w
-            → given (ended.Refused w) (zeros work) result ≡ list_call rules subject number work result
+        pub list_refused : {r : Result ℕ Refusal} {w : Refusal} → r ≡ sized (subject_in subject) → r ≡ Err w
+            → given (Err w) (zeros work) result ≡ list_call rules subject number work result
         unfolding list_call list_runs
         list_refused e f = rw (few, le-leb number 1000 allowed, le-leb 16384 (length work) long, good) (go (subject_in subject) (sym f ∙ e))
           where
-            go : {w : Refusal} (a : Answer Term) → sized.Refused w ≡ sized a
-                → given (ended.Refused w) (zeros work) result ≡ list_answer work result (with a (λ t. rewrites cs t number (length result)))
+            go : {w : Refusal} (a : Answer Term) → Err w ≡ sized a
+                → given (Err w) (zeros work) result ≡ list_answer work result (with a (λ t. rewrites cs t number (length result)))
             go (answered t) e = never (cc)
             go {w} (refused v) e = let z : v ≡ w = cc in rw z
 
@@ -77,7 +75,7 @@ call_same rules subject number work mid result e =
     go (answered (rewritten ws n q)) = rw e
     go (refused w) = rw e
 
-module _ {rules subject : List ℕ} {number : ℕ} {work work' result result' : List ℕ} {r : Ended} where
+module _ {rules subject : List ℕ} {number : ℕ} {work work' result result' : List ℕ} {r : Result Ended Refusal} where
   -- what is said of a call is said of it with other contents of the working table
   pub applied_before : {mid : List ℕ} → length mid ≡ length work → Applied rules subject number mid work' result result' r → Applied rules subject number work work' result result' r
   applied_before {mid} e a = record {

@@ -8,6 +8,8 @@ use mathlib.Core.Option.{Option, some, some-injective}
 use mathlib.Core.List.{List}
 use lib.ListN.{length, get_or, take, set, replicate}
 use lib.Seq.{length-take-le}
+use Rattle.std.specs.Prelude
+use Rattle.std.specs.Prelude.{Result, Ok, Err, Some, None}
 use Rattle.documents.specs.declared.Refusal.{Refusal}
 use Rattle.documents.specs.Terms.{Term}
 use Rattle.documents.specs.Tables.{table_of, nodes}
@@ -32,13 +34,8 @@ use Rattle.rule_table.proofs.Placed.{placed_below, placed_inside, placed_passes,
 use Rattle.levels.specs.Levels.{Above}
 use Rattle.levels.proofs.Above.{above_starts, above_depth, above_replaced}
 use Rattle.rewriter.specs.declared.Redex.{Redex}
-use Rattle.rewriter.specs.declared.Replaced.{Replaced}
-use Rattle.rewriter.specs.declared.Replaced.TheVariants as replaced
 use Rattle.rewriter.specs.Replaces.{plan_in, ReplacedAs, Replaces}
-use Rattle.search.specs.declared.Found.{Found}
-use Rattle.search.specs.declared.Found.TheVariants as found
 use Rattle.search.specs.Searches.{Searching, Redexed, FoundAs, Finds}
-use Rattle.list_run.specs.declared.Ended.TheVariants as ended
 use Rattle.list_run.specs.Answers.{Turning, Turns, Rewriting}
 
 -- ---- A plan at the front of a table
@@ -62,12 +59,12 @@ before_it : (f : Term → Option Term) (t : Term) (m : ℕ) → SilentBefore f t
 before_it f t m h = record { passed = h; ended = λ k v e l. absurd (omega (arith, nodes_positive v)) }
 
 -- answers that are known
-found_is : (rules starts plan above entries : List ℕ) (cs : List Program) {r : Found} (x : Found) → r ≡ x → FoundAs rules starts plan above entries cs r → FoundAs rules starts plan above entries cs x
+found_is : (rules starts plan above entries : List ℕ) (cs : List Program) {r : Prelude.Option Redex} (x : Prelude.Option Redex) → r ≡ x → FoundAs rules starts plan above entries cs r → FoundAs rules starts plan above entries cs x
 found_is rules starts plan above entries cs x e k = rw e at k
 
-replaced_is : (plan : List ℕ) (node words most : ℕ) (old : Term) (plan' : List ℕ) (c : Program) {r : Replaced} (x : Replaced) → r ≡ x
-    → ReplacedAs plan node words most old plan' c r → ReplacedAs plan node words most old plan' c x
-replaced_is plan node words most old plan' c x e k = rw e at k
+replaced_is : (plan : List ℕ) (node words most : ℕ) (old : Term) (plan' : List ℕ) (words' : ℕ) (c : Program) {r : Result (Unit {0}) Refusal} (x : Result (Unit {0}) Refusal) → r ≡ x
+    → ReplacedAs plan node words most old plan' words' c r → ReplacedAs plan node words most old plan' words' c x
+replaced_is plan node words most old plan' words' c x e k = rw e at k
 
 -- ---- Between two rewrites
 
@@ -138,26 +135,27 @@ module _ {rules starts roots seconds first : List ℕ} {words number most : ℕ}
     pub left_within : (p : (cs : List Program) × Turning rules starts roots seconds first words most work₀ cs) → (left ≤ length plan) × (left < 2 ^ 32)
     left_within (cs, t) = let l = table_long t in let i = a.inside in (omega arith, omega arith)
 
-    module _ {above' entries' : List ℕ} {r : Found} (f : Finds rules starts roots seconds (take left plan) node above above' level entries entries' 0 r) where
+    module _ {above' entries' : List ℕ} {r : Prelude.Option Redex} (f : Finds rules starts roots seconds (take left plan) node above above' level entries entries' 0 r) where
       finds : {cs : List Program} → Turning rules starts roots seconds first words most work₀ cs → FoundAs rules starts (take left plan) above' entries' cs r
       finds {cs} t = f.says cs (searching t)
 
       -- no rule matches any more
-      pub turned_ends : r ≡ found.Nowhere → Turns rules starts roots seconds first plan words number most work₀ work (ended.Plan left made true)
+      pub turned_ends : r ≡ None → Turns rules starts roots seconds first plan words left number most work₀ work (Ok (record { words = left; rewrites = made; normal = true }))
       turned_ends e = record {
         table_stays = a.table_stays;
         work_stays = a.work_stays;
         says = λ cs t.
-            let n = found_is rules starts (take left plan) above' entries' cs found.Nowhere e (finds t) in (
+            let n = found_is rules starts (take left plan) above' entries' cs None e (finds t) in (
               left_few t,
+              refl,
               running_ends cs (plan_in first words) number (2 * most) (plan_in plan left) made (a.goes cs t).running n
                   ∙ ap (λ (ws : List ℕ). answered (rewritten ws made true)) (sym (plan_table plan left (a.goes cs t).accepted)),
             );
       }
 
-      module _ {x : Redex} (e : r ≡ found.At x) where
+      module _ {x : Redex} (e : r ≡ Some x) where
         redexed : {cs : List Program} → Turning rules starts roots seconds first words most work₀ cs → Redexed rules starts (take left plan) above' entries' cs x
-        redexed {cs} t = found_is rules starts (take left plan) above' entries' cs (found.At x) e (finds t)
+        redexed {cs} t = found_is rules starts (take left plan) above' entries' cs (Some x) e (finds t)
 
         -- what the first rule that matches there makes of the redex, in its place
         next_is : {cs : List Program} (t : Turning rules starts roots seconds first words most work₀ cs)
@@ -168,12 +166,13 @@ module _ {rules starts roots seconds first : List ℕ} {words number most : ℕ}
             first_node_lem (by_first_rule cs) (plan_in plan left) x.node y.old y.matches.new y.here (ap (by_first_rule cs) (sym y.is_front) ∙ y.matches.first) y.earlier
 
         -- the number is used up
-        pub turned_stops : made ≡ number → Turns rules starts roots seconds first plan words number most work₀ work (ended.Plan left made false)
+        pub turned_stops : made ≡ number → Turns rules starts roots seconds first plan words left number most work₀ work (Ok (record { words = left; rewrites = made; normal = false }))
         turned_stops z = record {
           table_stays = a.table_stays;
           work_stays = a.work_stays;
           says = λ cs t. (
             left_few t,
+            refl,
             running_stops cs (plan_in first words) number (2 * most) (plan_in plan left) made (a.goes cs t).running z
                 ∙ (ap (λ (o : Option Term). answered (rewritten (table_of (plan_in plan left)) made (is_none o))) (next_is t)
                 ∙ ap (λ (ws : List ℕ). answered (rewritten ws made false)) (sym (plan_table plan left (a.goes cs t).accepted))),
@@ -210,9 +209,10 @@ module _ {rules starts roots seconds first : List ℕ} {words number most : ℕ}
               };
             }
 
-        module _ {plan' work' : List ℕ} {s : Replaced} (d : Replaces (code_at rules (get_or starts x.rule 0)) x (take x.entries entries') plan plan' left most work work' s) where
+        module _ {plan' work' : List ℕ} {next : ℕ} {s : Result (Unit {0}) Refusal}
+            (d : Replaces (code_at rules (get_or starts x.rule 0)) x (take x.entries entries') plan plan' left next most work work' s) where
           replaced_as : {cs : List Program} (t : Turning rules starts roots seconds first words most work₀ cs)
-              → ReplacedAs plan x.node left most (redexed t).old plan' (redexed t).matches.program s
+              → ReplacedAs plan x.node left most (redexed t).old plan' next (redexed t).matches.program s
           replaced_as {cs} t =
               let y = redexed t in
               let m = y.matches in
@@ -230,20 +230,20 @@ module _ {rules starts roots seconds first : List ℕ} {words number most : ℕ}
               → machine.made (run (redexed t).matches.program (redexed t).old) ≡ some w → once cs (plan_in plan left) ≡ some (replace (plan_in plan left) x.node w)
           next_plan t w e = next_is t ∙ ap (λ (u : Term). some (replace (plan_in plan left) x.node u)) (new_same t w e)
 
-          pub turned_breaks : {w : Refusal} → s ≡ replaced.Refused w → made < number → Turns rules starts roots seconds first plan' words number most work₀ work' (ended.Refused w)
+          pub turned_breaks : {w : Refusal} → s ≡ Err w → made < number → Turns rules starts roots seconds first plan' words next number most work₀ work' (Err w)
           turned_breaks {w} q l = record {
             table_stays = d.table_stays ∙ a.table_stays;
             work_stays = d.work_stays ∙ a.work_stays;
             says = λ cs t.
-                let k = replaced_is plan x.node left most (redexed t).old plan' (redexed t).matches.program (replaced.Refused w) q (replaced_as t) in
+                let k = replaced_is plan x.node left most (redexed t).old plan' next (redexed t).matches.program (Err w) q (replaced_as t) in
                 running_breaks cs (plan_in first words) number (2 * most) (plan_in plan left) made (a.goes cs t).running (replace (plan_in plan left) x.node k.0)
                 (next_plan t k.0 k.1) l w k.2;
           }
 
-          module _ {next : ℕ} (q : s ≡ replaced.Words next) where
+          module _ {done : Unit {0}} (q : s ≡ Ok done) where
             as_words : {cs : List Program} (t : Turning rules starts roots seconds first words most work₀ cs)
-                → ReplacedAs plan x.node left most (redexed t).old plan' (redexed t).matches.program (replaced.Words next)
-            as_words t = replaced_is plan x.node left most (redexed t).old plan' (redexed t).matches.program (replaced.Words next) q (replaced_as t)
+                → ReplacedAs plan x.node left most (redexed t).old plan' next (redexed t).matches.program (Ok done)
+            as_words t = replaced_is plan x.node left most (redexed t).old plan' next (redexed t).matches.program (Ok done) q (replaced_as t)
 
             goes_on : {cs : List Program} → Turning rules starts roots seconds first words most work₀ cs → made < number → Goes rules starts roots seconds first words number most work₀ plan' above' next x.node x.level (made + 1) cs
             goes_on {cs} t l =

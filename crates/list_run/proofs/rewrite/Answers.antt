@@ -6,7 +6,7 @@ pub slice_bounds-replace-end : goal.slice_bounds-replace-end
 slice_bounds-replace-end c = sym (length-take-le _ _ c.requires.few)
 
 pub replace-requires : goal.replace-requires
-replace-requires c = rw c.code_at-code.ensures c.requires.replacing
+replace-requires c = rw c.code.ensures c.requires.replacing
 
 pub returns : goal.returns
-returns c = rw c.code_at-code.ensures at c.replace.ensures
+returns c = rw c.code.ensures at c.replace.ensures
