@@ -24,6 +24,7 @@ pub struct Matched {
 
 // The code of the subterm that a part begins with, under so many abstractions; `sets` is the number of SETs still to come. Nodes are passed by a
 // running count of the terms still owed; only an abstraction takes a call.
+// Kept (point 5): each call has its own part, place and SETs, and a body its own `under`; a struct would be built anew at each and hold only `rows`.
 #[cycle(left_side_left_term)]
 pub fn left_side(
     part: &[u32],

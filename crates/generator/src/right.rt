@@ -19,6 +19,7 @@ pub struct Built {
 }
 
 // The code of the subterm that a part begins with, under so many abstractions.
+// Kept (point 5): each call has its own part and place, and a body its own `under`; a struct would be built anew at each and hold only `rows`.
 #[cycle(right_bodies_right_metavariable_right_side_right_terms)]
 pub fn right_side(part: &[u32], under: u32, rows: &[u32], code: &mut [u32], at: usize) -> Built
     requires { Ready 1 part.now under rows.now × Fits code.old at (right_code rows.now under (front part.now)) }
