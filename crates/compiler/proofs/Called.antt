@@ -1,13 +1,12 @@
 -- What compile answers, by the way that the code takes: each refusal in its turn, and at the end the code. What is asked of the sides first is asked
 -- by 01's chain of refusals too, so a chain that went through leaves only 8, 9 and 10.
 use mathlib.Core.Path.{◌≡◌, refl, sym, ap, ap₂, ◌∙◌}
-use Prim.Native.Nat.{ℕ, ◌-◌, ◌≤◌, ◌<◌}
+use Prim.Native.Nat.{ℕ, ◌≤◌, ◌<◌}
 use native.Mathlib.Omega.{arith}
 use mathlib.Core.Bool.{Bool, true, false, ◌&&◌, cond}
 use mathlib.Core.List.{List}
 use lib.Dec.{leb}
-use lib.ListN.{length, take, drop, length-drop}
-use lib.Seq.{take_all}
+use lib.ListN.{length}
 use borrow.Author.Tests.{le-leb, lt-leb}
 use Rattle.documents.specs.declared.Refusal.{Refusal}
 use Rattle.documents.specs.Limits.{side_limit, metavariable_limit, code_limit}
@@ -32,6 +31,8 @@ use Rattle.tables.proofs.Accepted.{AcceptedTable, accepted_table}
 use Rattle.symbols.specs.Rows.{rows_in}
 use Rattle.symbols.specs.Entries.{all_found}
 use Rattle.symbols.proofs.Asked.{found_table}
+use Rattle.symbols.specs.declared.table.SymbolTable.{SymbolTable}
+use Rattle.symbols.specs.Table.{rows_of}
 use Rattle.symbols.proofs.Whole.{Made}
 use Rattle.generator.specs.Written.{Fits}
 use Rattle.std.specs.Prelude.{Ok, Err}
@@ -266,11 +267,8 @@ pub record Rows (left rows : List ℕ) : Type 0 where
   pub entries : rows_in rows ≡ symbol_table (front left)
   pub few : length rows ≤ 176
 
-pub rows_of : (left : List ℕ) {table : List ℕ} {read place more : ℕ} → Made (front left) table read place more → length table ≡ 176 → Rows left (take (176 - place) (drop place table))
-rows_of left {table} {read} {place} {more} m h =
-    let d = length-drop place table in
-    let e : take (176 - place) (drop place table) ≡ drop place table = take_all (176 - place) (drop place table) (omega arith) in
-    rw e (record { entries = m.entries; few = omega arith })
+pub rows_made : (left : List ℕ) {table : SymbolTable} {read more : ℕ} (rows : List ℕ) → Made (front left) table read more → rows_in rows ≡ rows_of table → length rows ≤ 176 → Rows left rows
+rows_made left rows m e h = record { entries = e ∙ m.entries; few = h }
 
 -- what has a row is what stands on the left
 pub found_rows : {left rows : List ℕ} (ms : List (ℕ × ℕ)) → Rows left rows → all_found (rows_in rows) ms ≡ contains ms (metas (front left))

@@ -18,7 +18,8 @@ use documents::Refusal;
 use generator::left::left_side;
 use generator::right::right_side;
 use keys::all_known;
-use symbols::{ROW_WORDS, TABLE_WORDS, all_found, enter_all};
+use symbols::table::SymbolTable;
+use symbols::{ROW_WORDS, all_found, enter_all};
 
 // The code of a rule at the front of the code table, and how many words it has; or the first refusal of left 2, 1, 3; right 2, 1, 3; then 5, 6, 7,
 // 8, 9, 10, and no word changed.
@@ -34,11 +35,11 @@ fn translate(left: &[u32], right: &[u32], code: &mut [u32]) -> Result<u32, Refus
     requires { Sides left.now right.now }
     ensures { given result code.new ≡ compile_call left.now right.now code.old }
 {
-    let mut table = [0u32; TABLE_WORDS];
-    let Some(entered) = enter_all(left, 0, &mut table, TABLE_WORDS) else {
+    let mut table = SymbolTable::new();
+    let Some(entered) = enter_all(left, 0, &mut table) else {
         return Err(over_sixteen(left, right));
     };
-    let rows = &table[entered.first..];
+    let rows = table.rows();
     if !all_found(right, rows) {
         return Err(Refusal::MetavariableAbsentOnLeft);
     }

@@ -10,10 +10,10 @@ use mathlib.Core.Option as Math
 use mathlib.Core.Option.{none, some}
 use Rattle.std.specs.Prelude.{Option, Some, None}
 use mathlib.Core.List.{List, [], ◌∷◌}
-use lib.Dec.{leb}
+use lib.Dec.{leb, eqb}
 use lib.ListN.{length, drop, get_or, length-drop}
-use lib.Seq.{sets, drop-drop, get_or-drop, length-sets}
-use borrow.Author.Tests.{le-leb, lt-leb, leb-true, leb-false}
+use lib.Seq.{drop-drop, get_or-drop}
+use borrow.Author.Tests.{le-leb, lt-leb, leb-true, leb-false, eqb-true, eqb-false}
 use Rattle.std.proofs.lemmas.Option.{same_Some}
 use Rattle.documents.specs.Limits.{metavariable_limit}
 use Rattle.documents.specs.Terms.{Var, Sym, Meta, Abst, Nil, Cons, Term, Terms, len}
@@ -32,29 +32,31 @@ use Rattle.tables.proofs.Walks.{at_abstraction, ended, Walking, walking_from, wa
 use Rattle.tables.proofs.Fronts.{root, arguments_begin, argument_count, front_metavariable, front_abstraction}
 use Rattle.symbols.specs.declared.Entered.{Entered}
 use Rattle.symbols.specs.Rows.{rows_in, found_in}
-use Rattle.symbols.specs.Entries.{Table, Enterable, beginning, some_entered, entered, Enters, is_found}
-use Rattle.symbols.proofs.Stored.{length_rows, row_written}
+use Rattle.symbols.specs.declared.table.SymbolTable.{SymbolTable}
+use Rattle.symbols.specs.Table.{rows_of}
+use Rattle.symbols.specs.Entries.{Enterable, some_entered, entered, Enters, is_found}
+use Rattle.symbols.proofs.Stored.{rows_few}
 use Rattle.symbols.proofs.Located.{is_nothing, is_found_lem}
 
 -- ---- What an answer says
 
-same_entered : (read place more r p m : ℕ) → some_entered read place more ≡ some_entered r p m → (read ≡ r) × (place ≡ p) × (more ≡ m)
-same_entered read place more r p m e =
-    let s = same_Some (record { read = read; first = place; words = more }) (record { read = r; first = p; words = m }) e in
-    (ap (λ (x : Entered). x.read) s, ap (λ (x : Entered). x.first) s, ap (λ (x : Entered). x.words) s)
+same_entered : (read more r m : ℕ) → some_entered read more ≡ some_entered r m → (read ≡ r) × (more ≡ m)
+same_entered read more r m e =
+    let s = same_Some (record { read = read; words = more }) (record { read = r; words = m }) e in
+    (ap (λ (x : Entered). x.read) s, ap (λ (x : Entered). x.words) s)
 
 module _ (n : ℕ) (t : Term) (rows : List Row) where
-  pub entered_words : (read place more : ℕ) → some_entered read place more ≡ entered n t rows
-      → (length (update n t rows) ≤ metavariable_limit) × (read ≡ word_count t) × (place ≡ beginning (update n t rows)) × (more ≡ left_words n t rows)
+  pub entered_words : (read more : ℕ) → some_entered read more ≡ entered n t rows
+      → (length (update n t rows) ≤ metavariable_limit) × (read ≡ word_count t) × (more ≡ left_words n t rows)
   unfolding entered
-  entered_words read place more e = go (leb (length (update n t rows)) metavariable_limit) refl e
+  entered_words read more e = go (leb (length (update n t rows)) metavariable_limit) refl e
     where
       go : (q : Bool) → leb (length (update n t rows)) metavariable_limit ≡ q
-          → some_entered read place more ≡ cond q (some_entered (word_count t) (beginning (update n t rows)) (left_words n t rows)) None
-          → (length (update n t rows) ≤ metavariable_limit) × (read ≡ word_count t) × (place ≡ beginning (update n t rows)) × (more ≡ left_words n t rows)
+          → some_entered read more ≡ cond q (some_entered (word_count t) (left_words n t rows)) None
+          → (length (update n t rows) ≤ metavariable_limit) × (read ≡ word_count t) × (more ≡ left_words n t rows)
       go true q e =
-          let s = same_entered read place more (word_count t) (beginning (update n t rows)) (left_words n t rows) e in
-          (leb-true (length (update n t rows)) metavariable_limit q, s.0, s.1, s.2)
+          let s = same_entered read more (word_count t) (left_words n t rows) e in
+          (leb-true (length (update n t rows)) metavariable_limit q, s.0, s.1)
       go false q e = never (cc)
 
   pub entered_full : None ≡ entered n t rows → metavariable_limit < length (update n t rows)
@@ -62,29 +64,24 @@ module _ (n : ℕ) (t : Term) (rows : List Row) where
   entered_full e = go (leb (length (update n t rows)) metavariable_limit) refl e
     where
       go : (q : Bool) → leb (length (update n t rows)) metavariable_limit ≡ q
-          → None ≡ cond q (some_entered (word_count t) (beginning (update n t rows)) (left_words n t rows)) None → metavariable_limit < length (update n t rows)
+          → None ≡ cond q (some_entered (word_count t) (left_words n t rows)) None → metavariable_limit < length (update n t rows)
       go true q e = never (cc)
       go false q e = leb-false (length (update n t rows)) metavariable_limit q
 
-  is_full : (table : List ℕ) → metavariable_limit < length (update n t rows) → Enters n t rows table None
+  is_full : (table : SymbolTable) → metavariable_limit < length (update n t rows) → Enters n t rows table None
   unfolding entered
   is_full table h = record {
     answer = rw (lt-leb (length (update n t rows)) metavariable_limit h);
     entries = λ k. absurd (omega arith);
   }
 
-  is_words : (table : List ℕ) (read place more : ℕ) → length (update n t rows) ≤ metavariable_limit → rows_in (drop place table) ≡ update n t rows
-      → read ≡ word_count t → place ≡ beginning (update n t rows) → more ≡ left_words n t rows → Enters n t rows table (some_entered read place more)
+  is_entered : (table : SymbolTable) (read more : ℕ) → rows_of table ≡ update n t rows → read ≡ word_count t → more ≡ left_words n t rows
+      → Enters n t rows table (some_entered read more)
   unfolding entered
-  is_words table read place more fit e p b q = record { answer = rw (le-leb (length (update n t rows)) metavariable_limit fit, p, q, b); entries = λ h. rw (← b) e }
-
-  is_entered : (table : List ℕ) (read place more : ℕ) → Table table place → rows_in (drop place table) ≡ update n t rows → read ≡ word_count t → more ≡ left_words n t rows
-      → Enters n t rows table (some_entered read place more)
-  is_entered table read place more s e p q =
-      let l = length_rows (drop place table) in
-      let d = length-drop place table in
-      let k : length (rows_in (drop place table)) ≡ length (update n t rows) = ap (λ (rs : List Row). length rs) e in
-      is_words table read place more (omega arith) e p (omega arith) q
+  is_entered table read more e p q =
+      let k = ap (λ (rs : List Row). length rs) e in
+      let fit : length (update n t rows) ≤ metavariable_limit = omega (arith, rows_few table) in
+      record { answer = rw (le-leb (length (update n t rows)) metavariable_limit fit, p, q); entries = λ h. e }
 
 -- ---- Terms before others
 
@@ -163,18 +160,15 @@ meta_entries n z c l rows e = rw (update_arguments n (vars l) l refl, len_vars l
 
 -- ---- The subterm that a part begins with
 
-module _ {part : List ℕ} {under : ℕ} {table : List ℕ} {first : ℕ} (g : Enterable part under table first) where
-  abbrev here : List Row
-  here = rows_in (drop first table)
-
+module _ {part : List ℕ} {under : ℕ} (g : Enterable part under) where
   -- what was gone over has a node's words at least and is within the part; its code has at most 67 words a node
-  pub words_within : {left : List ℕ} {r : Option Entered} {read place more : ℕ} → Enters under (front part) here left r → r ≡ some_entered read place more
+  pub words_within : {rows : List Row} {left : SymbolTable} {r : Option Entered} {read more : ℕ} → Enters under (front part) rows left r → r ≡ some_entered read more
       → (2 ≤ read) × (read ≤ length part) × (more ≤ 17152)
-  words_within {read = read} {place} {more} e f =
-      let (fit, q, p, m) = entered_words under (front part) here read place more (sym f ∙ e.answer) in
+  words_within {rows} {read = read} {more} e f =
+      let (fit, q, m) = entered_words under (front part) rows read more (sym f ∙ e.answer) in
       let w = words_fit 1 part g.begins in
       let n : nodes (terms 1 part) ≡ nodes (front part) + 0 = ap (λ (ts : Terms). nodes ts) (front_term part g.begins) in
-      let k = left_short under (front part) here g.low g.simple in
+      let k = left_short under (front part) rows g.low g.simple in
       let s = g.short in
       (omega arith, omega arith, omega arith)
 
@@ -189,27 +183,25 @@ module _ {part : List ℕ} {under : ℕ} {table : List ℕ} {first : ℕ} (g : E
     simple_abstraction : Simple under (Abst body)
     simple_abstraction = rw is_abstraction at g.simple
 
-    pub body_enterable : Enterable (from 2 part) (under + 1) table first
+    pub body_enterable : Enterable (from 2 part) (under + 1)
     body_enterable = record {
       begins = rw from_drop (at_abstraction part 0 1 g.begins (omega arith) v).body;
       simple = rw (add-one under) simple_abstraction.1;
       low = let k = simple_abstraction.0 in omega arith;
       short = let s = g.short in rw (from_drop, length-drop) (omega arith);
-      sound = g.sound;
     }
 
-    module _ {left : List ℕ} {r : Option Entered} (e : Enters (under + 1) body here left r) where
-      pub body_full : r ≡ None → Enters under (front part) here left None
+    module _ {rows : List Row} {left : SymbolTable} {r : Option Entered} (e : Enters (under + 1) body rows left r) where
+      pub body_full : r ≡ None → Enters under (front part) rows left None
       body_full f =
-          let k = entered_full (under + 1) body here (sym f ∙ e.answer) in
-          rw is_abstraction (is_full under (Abst body) here left (rw (add-one under) at k))
+          let k = entered_full (under + 1) body rows (sym f ∙ e.answer) in
+          rw is_abstraction (is_full under (Abst body) rows left (rw (add-one under) at k))
 
-      pub body_entered : {read place more : ℕ} → r ≡ some_entered read place more → Enters under (front part) here left (some_entered (2 + read) place (1 + more))
-      body_entered {read} {place} {more} f =
-          let (fit, q, p, m) = entered_words (under + 1) body here read place more (sym f ∙ e.answer) in
-          let o : rows_in (drop place left) ≡ update (under + 1) body here = rw p (e.entries fit) in
+      pub body_entered : {read more : ℕ} → r ≡ some_entered read more → Enters under (front part) rows left (some_entered (2 + read) (1 + more))
+      body_entered {read} {more} f =
+          let (fit, q, m) = entered_words (under + 1) body rows read more (sym f ∙ e.answer) in
           rw is_abstraction
-          (is_words under (Abst body) here left (2 + read) place (1 + more) (rw (add-one under) at fit) (rw (add-one under) at o) (omega arith) (rw (add-one under) at p) (ap (λ (k : ℕ). 1 + k) (rw (add-one under) at m)))
+          (is_entered under (Abst body) rows left (2 + read) (1 + more) (rw (add-one under) at (e.entries fit)) (omega arith) (ap (λ (k : ℕ). 1 + k) (rw (add-one under) at m)))
 
   -- a metavariable
   module _ (lo : 131072 ≤ get_or part 0 0) (hi : get_or part 0 0 < 196608) where
@@ -231,68 +223,73 @@ module _ {part : List ℕ} {under : ℕ} {table : List ℕ} {first : ℕ} (g : E
     pub arguments_variables : Begins count (from 2 part) × (are_vars (terms count (from 2 part)) ≡ true)
     arguments_variables = (rw from_drop (arguments_begin g.begins), rw (from_drop 2 part, met.arguments) (are_vars_vars met.list))
 
-    met_entries : (o : Math.Option Located) → lookup name count here ≡ o → enter o (row name count under met.list) here ≡ update under (front part) here
-    met_entries o q = rw (← q, met.term) (sym (meta_entries under name count met.list here met.count))
+    pub arguments_count : length (unvar (terms count (from 2 part))) ≡ count
+    arguments_count = rw (from_drop 2 part, met.arguments, unvar_vars met.list) met.count
 
-    met_counts : (o : Math.Option Located) → lookup name count here ≡ o → occurrence_words under count o ≡ left_words under (front part) here
-    met_counts o q = rw (← q, met.term, len_vars met.list, met.count)
+    met_entries : (rows : List Row) (o : Math.Option Located) → lookup name count rows ≡ o → enter o (row name count under met.list) rows ≡ update under (front part) rows
+    met_entries rows o q = rw (← q, met.term) (sym (meta_entries under name count met.list rows met.count))
 
-    -- one that has a row
-    pub later_entered : (l : ℕ) → Some l ≡ found_in (lookup name count (rows_in (from first table)))
-        → Enters under (front part) here table (some_entered (2 + 2 * count) first (5 + 2 * count))
-    later_entered l a = go (lookup name count here) refl (is_found_lem (lookup name count here) l (rw (from_drop first table) at a))
-      where
-        go : (o : Math.Option Located) → lookup name count here ≡ o → is_found o ≡ true
-            → Enters under (front part) here table (some_entered (2 + 2 * count) first (5 + 2 * count))
-        go none q f = never (cc)
-        go (some x) q f =
-            is_entered under (front part) here table (2 + 2 * count) first (5 + 2 * count) g.sound (met_entries (some x) q) met.word_count_lem (met_counts (some x) q)
+    met_counts : (rows : List Row) (o : Math.Option Located) → lookup name count rows ≡ o → occurrence_words under count o ≡ left_words under (front part) rows
+    met_counts rows o q = rw (← q, met.term, len_vars met.list, met.count)
 
-    -- one that has none
-    module _ (a : None ≡ found_in (lookup name count (rows_in (from first table)))) where
-      missing : lookup name count here ≡ none
-      missing = is_nothing (lookup name count here) (rw (from_drop first table) at a)
+    module _ (table : SymbolTable) (words : List ℕ) (its : rows_in words ≡ rows_of table) where
+      abbrev here : List Row
+      here = rows_of table
 
-      -- where there is no room for it
-      pub first_full : first ≡ 0 → Enters under (front part) here table None
-      first_full z =
-          let l = length_rows (drop first table) in
-          let d = length-drop first table in
-          let s = g.sound.size in
-          let k : suc (length here) ≡ length (update under (front part) here) = ap (λ (rs : List Row). length rs) (met_entries none missing) in
-          is_full under (front part) here table (omega arith)
+      -- one that has a row
+      pub later_entered : (l : ℕ) → Some l ≡ found_in (lookup name count (rows_in words))
+          → Enters under (front part) here table (some_entered (2 + 2 * count) (5 + 2 * count))
+      later_entered l a = go (lookup name count here) refl (is_found_lem (lookup name count here) l (rw its at a))
+        where
+          go : (o : Math.Option Located) → lookup name count here ≡ o → is_found o ≡ true
+              → Enters under (front part) here table (some_entered (2 + 2 * count) (5 + 2 * count))
+          go none q f = never (cc)
+          go (some x) q f = is_entered under (front part) here table (2 + 2 * count) (5 + 2 * count) (met_entries here (some x) q) met.word_count_lem (met_counts here (some x) q)
 
-      -- where there is
-      pub first_entered : (left : List ℕ) → (first ≡ 0 → ⊥) → left ≡ sets table (first - 11) (name ∷ count ∷ under ∷ unvar (terms count (from 2 part)))
-          → Enters under (front part) here left (some_entered (2 + 2 * count) (first - 11) (4 + (under - count)))
-      first_entered left z w =
-          let r : 11 ≤ first = let p = g.sound.place in omega arith in
-          let s = g.sound in
-          let u : unvar (terms count (from 2 part)) ≡ met.list = rw (from_drop 2 part, met.arguments) (unvar_vars met.list) in
-          let e : left ≡ sets table (first - 11) (name ∷ count ∷ under ∷ met.list) = rw u at w in
-          let k : first - 11 + 11 ≡ first = omega arith in
-          let o : rows_in (drop (first - 11) left) ≡ row name count under met.list ∷ here = rw (e, row_written table (first - 11) name count under met.list met.count arguments_narrow (omega arith), k) in
-          let t : Table left (first - 11) = record { size = rw (e, length-sets table (first - 11) (name ∷ count ∷ under ∷ met.list)) s.size; place = omega arith; within = omega arith } in
-          is_entered under (front part) here left (2 + 2 * count) (first - 11) (4 + (under - count)) t (o ∙ met_entries none missing) met.word_count_lem (met_counts none missing)
+      -- one that has none
+      module _ (a : None ≡ found_in (lookup name count (rows_in words))) where
+        missing : lookup name count here ≡ none
+        missing = is_nothing (lookup name count here) (rw its at a)
+
+        -- where there is no room for it
+        pub first_full : true ≡ eqb (length here) 16 → Enters under (front part) here table None
+        first_full z =
+            let n : length here ≡ 16 = eqb-true (length here) 16 (sym z) in
+            let k : suc (length here) ≡ length (update under (front part) here) = ap (λ (rs : List Row). length rs) (met_entries here none missing) in
+            is_full under (front part) here table (omega arith)
+
+        -- where there is
+        pub first_entered : (left : SymbolTable) → rows_of left ≡ row name count under (unvar (terms count (from 2 part))) ∷ here
+            → Enters under (front part) here left (some_entered (2 + 2 * count) (4 + (under - count)))
+        first_entered left w =
+            let u : unvar (terms count (from 2 part)) ≡ met.list = rw (from_drop 2 part, met.arguments) (unvar_vars met.list) in
+            let o : rows_of left ≡ row name count under met.list ∷ here = rw u at w in
+            is_entered under (front part) here left (2 + 2 * count) (4 + (under - count)) (o ∙ met_entries here none missing) met.word_count_lem (met_counts here none missing)
+
+-- there is room where it is not full
+pub room : (table : SymbolTable) → false ≡ eqb (length (rows_of table)) 16 → length (rows_of table) < 16
+room table z =
+    let n = rows_few table in
+    let o : length (rows_of table) ≡ 16 → ⊥ = eqb-false (length (rows_of table)) 16 (sym z) in
+    omega arith
 
 -- ---- The walk
 
-pub record Entering (part : List ℕ) (under : ℕ) (rows : List Row) (table : List ℕ) (owed at first words : ℕ) : Type 0 where
+pub record Entering (part : List ℕ) (under : ℕ) (rows : List Row) (table : SymbolTable) (owed at words : ℕ) : Type 0 where
   pub walk : Walking part owed at
   pub simple : Simple under (terms owed (drop at part))
   pub low : under < 64
   pub short : length part ≤ 512
-  pub sound : Table table first
-  pub entries : update under (terms owed (drop at part)) (rows_in (drop first table)) ≡ update under (front part) rows
-  pub counts : words + left_words under (terms owed (drop at part)) (rows_in (drop first table)) ≡ left_words under (front part) rows
+  pub entries : update under (terms owed (drop at part)) (rows_of table) ≡ update under (front part) rows
+  pub counts : words + left_words under (terms owed (drop at part)) (rows_of table) ≡ left_words under (front part) rows
   -- 67 words a node
   pub few : left_words under (front part) rows ≤ 17152
 
-pub entering_from : {part : List ℕ} {under : ℕ} {table : List ℕ} {first : ℕ} → Enterable part under table first
-    → Entering part under (rows_in (drop first table)) table 1 0 first 0
-entering_from {part} {under} {table} {first} g =
+pub entering_from : {part : List ℕ} {under : ℕ} (table : SymbolTable) → Enterable part under
+    → Entering part under (rows_of table) table 1 0 0
+entering_from {part} {under} table g =
     let e = front_term part g.begins in
-    let k = left_short under (front part) (rows_in (drop first table)) g.low g.simple in
+    let k = left_short under (front part) (rows_of table) g.low g.simple in
     let f = walking_from g.begins in
     let s = g.short in
     record {
@@ -300,38 +297,36 @@ entering_from {part} {under} {table} {first} g =
       simple = rw e (g.simple, tt);
       low = g.low;
       short = s;
-      sound = g.sound;
       entries = rw e;
       counts = rw e (omega arith);
       few = let r = f.room in omega arith;
     }
 
-pub entering_ended : {part : List ℕ} {under : ℕ} {rows : List Row} {table : List ℕ} {owed at first words : ℕ} → Entering part under rows table owed at first words → owed ≤ 0
-    → Enters under (front part) rows table (some_entered at first words)
-entering_ended {part} {under} {rows} {table} {owed} {at} {first} {words} e h =
+pub entering_ended : {part : List ℕ} {under : ℕ} {rows : List Row} {table : SymbolTable} {owed at words : ℕ} → Entering part under rows table owed at words → owed ≤ 0
+    → Enters under (front part) rows table (some_entered at words)
+entering_ended {part} {under} {rows} {table} {owed} {at} {words} e h =
     let n = ended e.walk.walk h in
     let u = rw n at e.entries in
     let c : words + 0 ≡ left_words under (front part) rows = rw n at e.counts in
-    is_entered under (front part) rows table at first words e.sound u (walking_ended e.walk h) (omega arith)
+    is_entered under (front part) rows table at words u (walking_ended e.walk h) (omega arith)
 
-module _ {part : List ℕ} {under : ℕ} {rows : List Row} {table : List ℕ} {owed at first words : ℕ}
-    (e : Entering part under rows table owed at first words) (h : 0 < owed) where
+module _ {part : List ℕ} {under : ℕ} {rows : List Row} {table : SymbolTable} {owed at words : ℕ}
+    (e : Entering part under rows table owed at words) (h : 0 < owed) where
   pub narrow_node : get_or part (at + 1) 0 ≤ 8
   narrow_node = (step part at owed e.walk.walk.begins h).narrow
 
   -- past a variable's words or a symbol's
-  pub entering_plain : get_or part at 0 < 131072 → Entering part under rows table (owed - 1 + get_or part (at + 1) 0) (at + 2) first (words + 3)
+  pub entering_plain : get_or part at 0 < 131072 → Entering part under rows table (owed - 1 + get_or part (at + 1) 0) (at + 2) (words + 3)
   entering_plain v =
       let b = plain_step under (step part at owed e.walk.walk.begins h) refl v e.simple in
       let c = e.counts in
-      let k = b.counts (rows_in (drop first table)) in
+      let k = b.counts (rows_of table) in
       record {
         walk = walking_on e.walk h;
         simple = b.simple;
         low = e.low;
         short = e.short;
-        sound = e.sound;
-        entries = sym (b.entries (rows_in (drop first table))) ∙ e.entries;
+        entries = sym (b.entries (rows_of table)) ∙ e.entries;
         counts = omega arith;
         few = e.few;
       }
@@ -348,48 +343,44 @@ module _ {part : List ℕ} {under : ℕ} {rows : List Row} {table : List ℕ} {o
   simple_term : Simple under (Cons (front (from at part)) behind)
   simple_term = rw terms_are at e.simple
 
-  pub term_enterable : Enterable (from at part) under table first
+  pub term_enterable : Enterable (from at part) under
   term_enterable = record {
     begins = rw from_drop (begins_less 1 (omega arith) e.walk.walk.begins);
     simple = simple_term.0;
     low = e.low;
     short = let s = e.short in rw (from_drop, length-drop) (omega arith);
-    sound = e.sound;
   }
 
   pub first_word : get_or (from at part) 0 0 ≡ get_or part at 0
   first_word = let k : at + 0 ≡ at = omega arith in rw (from_drop at part, get_or-drop at part 0 0, k)
 
   abbrev after : List Row
-  after = update under (front (from at part)) (rows_in (drop first table))
+  after = update under (front (from at part)) (rows_of table)
 
   after_entries : update under behind after ≡ update under (front part) rows
   after_entries = rw terms_are at e.entries
 
-  after_counts : words + (left_words under (front (from at part)) (rows_in (drop first table)) + left_words under behind after) ≡ left_words under (front part) rows
+  after_counts : words + (left_words under (front (from at part)) (rows_of table) + left_words under behind after) ≡ left_words under (front part) rows
   after_counts = rw terms_are at e.counts
 
-  module _ {left : List ℕ} {r : Option Entered} (t : Enters under (front (from at part)) (rows_in (drop first table)) left r) where
+  module _ {left : SymbolTable} {r : Option Entered} (t : Enters under (front (from at part)) (rows_of table) left r) where
     pub term_full : r ≡ None → Enters under (front part) rows left None
     term_full f =
-        let k = entered_full under (front (from at part)) (rows_in (drop first table)) (sym f ∙ t.answer) in
+        let k = entered_full under (front (from at part)) (rows_of table) (sym f ∙ t.answer) in
         let g = length_update under behind after in
         let a : length (update under behind after) ≡ length (update under (front part) rows) = ap (λ (rs : List Row). length rs) after_entries in
         is_full under (front part) rows left (omega arith)
 
-    pub entering_term : {read place more : ℕ} → length left ≡ length table → r ≡ some_entered read place more
-        → Entering part under rows left (owed - 1) (at + read) place (words + more)
-    entering_term {read} {place} {more} s f =
-        let (fit, w, p, m) = entered_words under (front (from at part)) (rows_in (drop first table)) read place more (sym f ∙ t.answer) in
-        let o : rows_in (drop place left) ≡ after = rw p (t.entries fit) in
+    pub entering_term : {read more : ℕ} → r ≡ some_entered read more → Entering part under rows left (owed - 1) (at + read) (words + more)
+    entering_term {read} {more} f =
+        let (fit, w, m) = entered_words under (front (from at part)) (rows_of table) read more (sym f ∙ t.answer) in
+        let o : rows_of left ≡ after = t.entries fit in
         let c = after_counts in
-        let z = e.sound.size in
         rw w (record {
           walk = rw from_drop (walking_term e.walk h);
           simple = simple_term.1;
           low = e.low;
           short = e.short;
-          sound = record { size = s ∙ z; place = omega arith; within = omega arith };
           entries = rw o after_entries;
           counts = rw (o, m) (omega arith);
           few = e.few;

@@ -1,10 +1,12 @@
 -- A row that is written: it stands before the rows that begin behind it. And its arguments as they are written, a variable after the other.
 use mathlib.Core.Path.{◌≡◌, refl, sym, ap, ap₂, ◌∙◌}
-use Prim.Native.Nat.{ℕ, zero, suc, ◌+◌, ◌-◌, ◌*◌, ◌/◌, ◌≤◌, ◌<◌}
+use Prim.Native.Nat.{ℕ, zero, suc, ◌+◌, ◌-◌, ◌*◌, ◌/◌, ◌%◌, ◌≤◌, ◌<◌}
 use native.Mathlib.Omega.{arith}
-use mathlib.Core.Bool.{true}
+use mathlib.Core.Bool.{Bool, true, false}
+use lib.Dec.{eqb}
+use borrow.Author.Tests.{eq-eqb, ne_eqb, eqb-true, eqb-false}
 use mathlib.Core.List.{List, [], ◌∷◌, ◌++◌, append_assoc}
-use lib.ListN.{length, get_or, take, drop, set, length-set}
+use lib.ListN.{length, get_or, take, drop, set, length-set, length-drop}
 use lib.Seq.{sets, sets-eq, length-sets, drop-set-lt, drop_at, take_at, length-take-le}
 use Rattle.documents.specs.Terms.{Terms}
 use Rattle.documents.specs.Rules.{are_vars}
@@ -12,6 +14,8 @@ use Rattle.documents.specs.Translation.{Row, row, unvar}
 use Rattle.tables.specs.Parts.{terms, Begins}
 use Rattle.tables.proofs.Walks.{at_variable, Walk, walk_from, walk_variable, ended}
 use Rattle.tables.proofs.Sides.{is_variable, variables_behind}
+use Rattle.symbols.specs.declared.table.SymbolTable.{SymbolTable}
+use Rattle.symbols.specs.Table.{rows_of}
 use Rattle.symbols.specs.Rows.{row_in, rows_from, rows_in}
 use Rattle.symbols.proofs.Rows.{rows_step}
 
@@ -25,6 +29,38 @@ length_rows ws = go (length ws / 11) ws
     go : (n : ℕ) (ws : List ℕ) → length (rows_from n ws) ≡ n
     go zero ws = refl
     go (suc n) ws = ap suc (go n (drop 11 ws))
+
+-- a table has no more than sixteen, and has so many where it is filled to its first word
+length_rows_of : (table : SymbolTable) → length (rows_of table) ≡ (176 - table.first) / 11
+length_rows_of table =
+    let l = length_rows (drop table.first table.words) in
+    let d = length-drop table.first table.words in
+    let z : length table.words ≡ 176 = table.size in
+    rw (l, d, z) refl
+
+pub rows_few : (table : SymbolTable) → length (rows_of table) ≤ 16
+rows_few table = let l = length_rows_of table in omega arith
+
+pub room_left : (table : SymbolTable) → length (rows_of table) < 16 → 11 ≤ table.first
+room_left table h =
+    let l = length_rows_of table in
+    let w : table.first % 11 ≡ 0 = table.whole in
+    let i : table.first ≤ 176 = table.within in
+    omega arith
+
+pub rows_full : (table : SymbolTable) → eqb table.first 0 ≡ eqb (length (rows_of table)) 16
+rows_full table = go (eqb table.first 0) refl
+  where
+    go : (q : Bool) → eqb table.first 0 ≡ q → q ≡ eqb (length (rows_of table)) 16
+    go true e =
+        let l = length_rows_of table in
+        let z = eqb-true table.first 0 e in
+        sym (eq-eqb (length (rows_of table)) 16 (omega arith))
+    go false e =
+        let l = length_rows_of table in
+        let w : table.first % 11 ≡ 0 = table.whole in
+        let z = eqb-false table.first 0 e in
+        sym (ne_eqb (length (rows_of table)) 16 (λ h. omega arith))
 
 -- what stands behind is left
 drop_sets : (vs l : List ℕ) (i n : ℕ) → i + length vs ≤ n → drop n (sets l i vs) ≡ drop n l

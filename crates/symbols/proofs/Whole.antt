@@ -1,13 +1,13 @@
 -- The table of a whole left side, for the compiler: entered in a table without rows, it holds the rows of 004's symbol table, and only a seventeenth
 -- row is refused.
-use mathlib.Core.Path.{◌≡◌, refl, sym, ◌∙◌}
+use mathlib.Core.Path.{◌≡◌, sym, ◌∙◌}
 use Prim.Native.Nat.{ℕ, suc, ◌≤◌, ◌<◌}
 use native.Mathlib.Omega.{arith}
 use mathlib.Core.Option as Math
 use mathlib.Core.Option.{none, some}
 use Rattle.std.specs.Prelude.{Option, None}
 use mathlib.Core.List.{List, []}
-use lib.ListN.{length, drop}
+use lib.ListN.{length}
 use Rattle.documents.specs.Limits.{metavariable_limit}
 use Rattle.documents.specs.Terms.{Sort, Tm, Var, Sym, Meta, Abst, Nil, Cons, Term, len}
 use Rattle.documents.specs.Translation.{Row, row, Located, lookup, unvar, enter, update, symbol_table}
@@ -15,39 +15,32 @@ use Rattle.kahrs.proofs.Simple.{Simple, update_arguments}
 use Rattle.compiled.specs.Length.{left_words}
 use Rattle.tables.specs.Parts.{word_count}
 use Rattle.symbols.specs.declared.Entered.{Entered}
-use Rattle.symbols.specs.Rows.{rows_in, Low}
-use Rattle.symbols.specs.Entries.{Table, beginning, some_entered, Enters}
-use Rattle.symbols.proofs.Rows.{rows_ended}
+use Rattle.symbols.specs.Rows.{Low}
+use Rattle.symbols.specs.declared.table.SymbolTable.{SymbolTable}
+use Rattle.symbols.specs.Table.{rows_of}
+use Rattle.symbols.specs.Entries.{some_entered, Enters}
 use Rattle.symbols.proofs.Entering.{entered_words, entered_full}
 
 -- ---- From no rows on
 
-pub table_without_rows : (table : List ℕ) → length table ≡ 176 → Table table 176
-table_without_rows table h = record { size = h; place = refl; within = omega arith }
-
-pub no_rows : (table : List ℕ) → length table ≡ 176 → rows_in (drop 176 table) ≡ []
-no_rows table h = rows_ended table 176 (omega arith)
-
--- the words from the place on hold the symbol table
-pub record Made (l : Term) (table : List ℕ) (read place more : ℕ) : Type 0 where
-  pub entries : rows_in (drop place table) ≡ symbol_table l
+-- it holds the symbol table
+pub record Made (l : Term) (table : SymbolTable) (read more : ℕ) : Type 0 where
+  pub entries : rows_of table ≡ symbol_table l
   pub few : length (symbol_table l) ≤ metavariable_limit
-  pub begins : place ≡ beginning (symbol_table l)
   pub passed : read ≡ word_count l
   pub counts : more ≡ left_words 0 l []
 
-pub table_made : {l : Term} {new : List ℕ} {r : Option Entered} {read place more : ℕ} (old : List ℕ) → length old ≡ 176 → Enters 0 l (rows_in (drop 176 old)) new r
-    → r ≡ some_entered read place more → Made l new read place more
-table_made {l} {new} {r} {read} {place} {more} old h e f =
-    let g : Enters 0 l [] new r = rw (no_rows old h) at e in
-    let (fit, q, p, m) = entered_words 0 l [] read place more (sym f ∙ g.answer) in
-    record { entries = rw p (g.entries fit); few = fit; begins = p; passed = q; counts = m }
+module _ {l : Term} {rows : List Row} {new : SymbolTable} {r : Option Entered} (none : rows ≡ []) (e : Enters 0 l rows new r) where
+  pub table_made : {read more : ℕ} → r ≡ some_entered read more → Made l new read more
+  table_made {read} {more} f =
+      let g : Enters 0 l [] new r = rw none at e in
+      let (fit, q, m) = entered_words 0 l [] read more (sym f ∙ g.answer) in
+      record { entries = g.entries fit; few = fit; passed = q; counts = m }
 
-pub table_full : {l : Term} {new : List ℕ} {r : Option Entered} (old : List ℕ) → length old ≡ 176 → Enters 0 l (rows_in (drop 176 old)) new r → r ≡ None
-    → metavariable_limit < length (symbol_table l)
-table_full {l} {new} {r} old h e f =
-    let g : Enters 0 l [] new r = rw (no_rows old h) at e in
-    entered_full 0 l [] (sym f ∙ g.answer)
+  pub table_full : r ≡ None → metavariable_limit < length (symbol_table l)
+  table_full f =
+      let g : Enters 0 l [] new r = rw none at e in
+      entered_full 0 l [] (sym f ∙ g.answer)
 
 -- ---- Low rows
 

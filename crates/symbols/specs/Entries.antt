@@ -1,5 +1,5 @@
 -- Entering the metavariables of a left side in the symbol table (004, section 5), and asking for those of a right side.
-use Rattle.std.specs.Prelude.{◌≡◌, ℕ, ◌-◌, ◌*◌, ◌%◌, ◌≤◌, ◌<◌, Bool, true, false, cond, List, leb, length, drop}
+use Rattle.std.specs.Prelude.{◌≡◌, ℕ, ◌≤◌, ◌<◌, Bool, true, false, cond, List, leb, length}
 use Rattle.std.specs.Prelude.{Option, Some, None}
 use Rattle.std.proofs.Math.Option as Math
 use Rattle.std.proofs.Math.Option.{none, some}
@@ -11,41 +11,29 @@ use Rattle.kahrs.proofs.Simple.{Simple}
 use Rattle.compiled.specs.Length.{left_words}
 use Rattle.tables.specs.Parts.{front, Begins, word_count}
 use Rattle.symbols.specs.declared.Entered.{Entered}
-use Rattle.symbols.specs.Rows.{rows_in}
+use Rattle.symbols.specs.declared.table.SymbolTable.{SymbolTable}
+use Rattle.symbols.specs.Table.{rows_of}
 
--- The words of sixteen rows, of which those from a place on hold whole rows.
-pub record Table (table : List ℕ) (from : ℕ) : Type 0 where
-  pub size : length table ≡ 176
-  pub place : from % 11 ≡ 0
-  pub within : from ≤ 176
-
--- What is asked for: the subterm that a part begins with is that of a left side, under so many abstractions, and the table's rows begin at a place.
-pub record Enterable (part : List ℕ) (under : ℕ) (table : List ℕ) (from : ℕ) : Type 0 where
+-- What is asked for: the subterm that a part begins with is that of a left side, under so many abstractions.
+pub record Enterable (part : List ℕ) (under : ℕ) : Type 0 where
   pub begins : Begins 1 part
   pub simple : Simple under (front part)
   pub low : under < 64
   pub short : length part ≤ 512
-  pub sound : Table table from
 
--- where a table of so many rows begins
-abbrev pub beginning : List Row → ℕ
-beginning rows = 176 - 11 * length rows
+-- the words gone over, and the words of their code
+abbrev pub some_entered : ℕ → ℕ → Option Entered
+some_entered read words = Some (record { read = read; words = words })
 
--- the words gone over, where the table begins, and the words of their code
-abbrev pub some_entered : ℕ → ℕ → ℕ → Option Entered
-some_entered read first words = Some (record { read = read; first = first; words = words })
-
--- What entering the metavariables of a term under n abstractions answers: the term's words, the place where the table then begins, and the words of
--- the term's code; unless the table would have more than sixteen rows.
+-- What entering the metavariables of a term under n abstractions answers: the term's words, and the words of its code; unless the table would have
+-- more than sixteen rows.
 unfoldable pub entered : ℕ → Term → List Row → Option Entered
-entered n t rows =
-    let after = update n t rows in
-    cond (leb (length after) metavariable_limit) (some_entered (word_count t) (beginning after) (left_words n t rows)) None
+entered n t rows = cond (leb (length (update n t rows)) metavariable_limit) (some_entered (word_count t) (left_words n t rows)) None
 
 -- The answer, and the table that was left: where there is room, it holds the term's metavariables too.
-pub record Enters (n : ℕ) (t : Term) (rows : List Row) (table : List ℕ) (r : Option Entered) : Type 0 where
+pub record Enters (n : ℕ) (t : Term) (rows : List Row) (table : SymbolTable) (r : Option Entered) : Type 0 where
   pub answer : r ≡ entered n t rows
-  pub entries : length (update n t rows) ≤ metavariable_limit → rows_in (drop (beginning (update n t rows)) table) ≡ update n t rows
+  pub entries : length (update n t rows) ≤ metavariable_limit → rows_of table ≡ update n t rows
 
 abbrev pub is_found : Math.Option Located → Bool
 is_found none = false

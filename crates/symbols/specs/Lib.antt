@@ -1,2 +1,3 @@
 pub mod Rows
+pub mod Table
 pub mod Entries

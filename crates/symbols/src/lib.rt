@@ -3,14 +3,17 @@
 // stands first, and a location is a place.
 #![tactic(auto)]
 
-ghost use Rattle.std.specs.Prelude.{◌≡◌, true, ◌∷◌, ◌+◌, ◌≤◌, ◌<◌, length, drop, get_or};
-ghost use Rattle.std.proofs.lemmas.List.Edits.{sets};
-ghost use Rattle.documents.specs.Rules.{metas, are_vars};
-ghost use Rattle.documents.specs.Translation.{lookup, unvar};
-ghost use Rattle.tables.specs.Parts.{front, terms, Begins};
+pub mod table; // its rows, and entering one
+
+ghost use Rattle.std.specs.Prelude.{◌≡◌, ◌≤◌, ◌<◌, get_or};
+ghost use Rattle.documents.specs.Rules.{metas};
+ghost use Rattle.documents.specs.Translation.{lookup};
+ghost use Rattle.tables.specs.Parts.{front, Begins};
 ghost use Rattle.symbols.specs.Rows.{rows_in, found_in};
+ghost use Rattle.symbols.specs.Table.{rows_of};
 ghost use Rattle.symbols.specs.Entries.{Enterable, Enters, all_found};
 
+use crate::table::SymbolTable;
 use tables::node::{ABSTRACTION, FIRST_METAVARIABLE};
 use tables::walk::Nodes;
 
@@ -42,11 +45,10 @@ pub fn find(rows: &[u32], name: u32, count: u32) -> Option<usize>
     None
 }
 
-// The words of the subterm that was gone over, the place where the table begins now, and the words of the subterm's code.
+// The words of the subterm that was gone over, and the words of its code.
 #[derive(Clone, Copy)]
 pub struct Entered {
     pub read: usize,
-    pub first: usize,
     pub words: usize,
 }
 
@@ -62,16 +64,15 @@ const FIRST_WORDS: usize = 4;
 // Of a later occurrence's code, but for the pairs: EQI, entry, d + 64, count, NEXT.
 const LATER_WORDS: usize = 5;
 
-// Enters the metavariables of a left side's subterm, under so many abstractions, in a table that begins at a place, if there is room for them.
+// Enters the metavariables of a left side's subterm, under so many abstractions, if there is room for them.
 #[cycle(enter_all_enter_term)]
-pub fn enter_all(part: &[u32], under: u32, table: &mut [u32], from: usize) -> Option<Entered>
-    requires { Enterable part.now under table.old from }
-    ensures { Enters under (front part.now) (rows_in (drop from table.old)) table.new result }
+pub fn enter_all(part: &[u32], under: u32, table: &mut SymbolTable) -> Option<Entered>
+    requires { Enterable part.now under }
+    ensures { Enters under (front part.now) (rows_of table.old) table.new result }
 {
     // Kept (point 3): where the next term begins, the call says that went over the one before; `Nodes` would go into it.
     let mut owed: usize = 1;
     let mut read: usize = 0;
-    let mut first = from;
     let mut words: usize = 0;
     while 0 < owed {
         if part[read] < FIRST_METAVARIABLE {
@@ -80,76 +81,48 @@ pub fn enter_all(part: &[u32], under: u32, table: &mut [u32], from: usize) -> Op
             words += PLAIN_WORDS;
             continue;
         }
-        let term = enter_term(&part[read..], under, table, first)?;
+        let term = enter_term(&part[read..], under, table)?;
         owed -= 1;
         read += term.read;
-        first = term.first;
         words += term.words;
     }
-    Some(Entered { read, first, words })
+    Some(Entered { read, words })
 }
 
 // An abstraction or a metavariable.
 #[cycle(enter_all_enter_term)]
-fn enter_term(part: &[u32], under: u32, table: &mut [u32], from: usize) -> Option<Entered>
-    requires { Enterable part.now under table.old from × (131072 ≤ get_or part.now 0 0) }
-    ensures { Enters under (front part.now) (rows_in (drop from table.old)) table.new result }
+fn enter_term(part: &[u32], under: u32, table: &mut SymbolTable) -> Option<Entered>
+    requires { Enterable part.now under × (131072 ≤ get_or part.now 0 0) }
+    ensures { Enters under (front part.now) (rows_of table.old) table.new result }
 {
     if part[0] != ABSTRACTION {
-        return enter_metavariable(part, under, table, from);
+        return enter_metavariable(part, under, table);
     }
-    let body = enter_all(&part[2..], under + 1, table, from)?;
+    let body = enter_all(&part[2..], under + 1, table)?;
     Some(Entered {
         read: 2 + body.read,
-        first: body.first,
         words: ABSTRACTION_WORDS + body.words,
     })
 }
 
 // A metavariable: where it has no row yet, this is its first occurrence.
-fn enter_metavariable(part: &[u32], under: u32, table: &mut [u32], from: usize) -> Option<Entered>
-    requires { Enterable part.now under table.old from × (131072 ≤ get_or part.now 0 0) × (get_or part.now 0 0 < 196608) }
-    ensures { Enters under (front part.now) (rows_in (drop from table.old)) table.new result }
+fn enter_metavariable(part: &[u32], under: u32, table: &mut SymbolTable) -> Option<Entered>
+    requires { Enterable part.now under × (131072 ≤ get_or part.now 0 0) × (get_or part.now 0 0 < 196608) }
+    ensures { Enters under (front part.now) (rows_of table.old) table.new result }
 {
     let name = part[0] - FIRST_METAVARIABLE;
     let count = part[1];
     let read = 2 + 2 * count as usize;
-    if find(&table[from..], name, count).is_some() {
+    if find(table.rows(), name, count).is_some() {
         let words = LATER_WORDS + 2 * count as usize;
-        return Some(Entered {
-            read,
-            first: from,
-            words,
-        });
+        return Some(Entered { read, words });
     }
-    if from == 0 {
+    if table.is_full() {
         return None;
     }
-    let first = from - ROW_WORDS;
-    enter(table, first, name, count, under, &part[2..]);
+    table.enter(name, count, under, &part[2..]);
     let words = FIRST_WORDS + (under - count) as usize;
-    Some(Entered { read, first, words })
-}
-
-// Writes a row.
-fn enter(table: &mut [u32], at: usize, name: u32, count: u32, under: u32, arguments: &[u32])
-    requires { Begins count arguments.now × (are_vars (terms count arguments.now) ≡ true) × (at + 3 + count ≤ length table.old) }
-    ensures { table.new ≡ sets table.old at (name ∷ count ∷ under ∷ unvar (terms count arguments.now)) }
-{
-    table[at] = name;
-    table[at + COUNT] = count;
-    table[at + ABOVE] = under;
-    put_variables(arguments, count, table, at + ARGUMENTS);
-}
-
-// Writes the indices of the first terms of a part, so many, which are variables.
-fn put_variables(part: &[u32], count: u32, out: &mut [u32], at: usize)
-    requires { Begins count part.now × (are_vars (terms count part.now) ≡ true) × (at + count ≤ length out.old) }
-    ensures { out.new ≡ sets out.old at (unvar (terms count part.now)) }
-{
-    for i in 0..count as usize {
-        out[at + i] = part[2 * i];
-    }
+    Some(Entered { read, words })
 }
 
 // Whether each metavariable of a subterm has a row.

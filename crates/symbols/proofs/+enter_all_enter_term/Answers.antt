@@ -7,7 +7,7 @@ use borrow.Author.Rules.{rules}
 use Rattle.symbols.proofs.+enter_all_enter_term.Goals as goal
 
 pub enter_all-loop-owed-init : goal.enter_all-loop-owed-init
-enter_all-loop-owed-init t c = entering_from c.requires
+enter_all-loop-owed-init t c = entering_from c.args.table.now c.requires
 
 pub enter_all-overflow_cast-owed : goal.enter_all-overflow_cast-owed
 enter_all-overflow_cast-owed t c = let k = narrow_node c.loop-owed.invariant c.loop-owed-test.true in search rules
@@ -25,16 +25,16 @@ pub enter_all-returns-in_err-term : goal.enter_all-returns-in_err-term
 enter_all-returns-in_err-term t c = rw c.from_residual.ensures (term_full c.loop-owed.invariant c.loop-owed-test.true c.enter_term.ensures c.in_err-term.was)
 
 pub enter_all-overflow_add-read-in-loop-owed : goal.enter_all-overflow_add-read-in-loop-owed
-enter_all-overflow_add-read-in-loop-owed t c = let o = entering_term c.loop-owed.invariant c.loop-owed-test.true c.enter_term.ensures c.enter_term.auto.table c.in_ok-term.was in search rules
+enter_all-overflow_add-read-in-loop-owed t c = let o = entering_term c.loop-owed.invariant c.loop-owed-test.true c.enter_term.ensures c.in_ok-term.was in search rules
 
 pub enter_all-overflow_add-words-in-loop-owed : goal.enter_all-overflow_add-words-in-loop-owed
-enter_all-overflow_add-words-in-loop-owed t c = let o = entering_term c.loop-owed.invariant c.loop-owed-test.true c.enter_term.ensures c.enter_term.auto.table c.in_ok-term.was in search rules
+enter_all-overflow_add-words-in-loop-owed t c = let o = entering_term c.loop-owed.invariant c.loop-owed-test.true c.enter_term.ensures c.in_ok-term.was in search rules
 
 pub enter_all-loop-owed-smaller : goal.enter_all-loop-owed-smaller
 enter_all-loop-owed-smaller t c = let k = words_within (term_enterable c.loop-owed.invariant c.loop-owed-test.true) c.enter_term.ensures c.in_ok-term.was in search rules
 
 pub enter_all-loop-owed-preserved : goal.enter_all-loop-owed-preserved
-enter_all-loop-owed-preserved t c = entering_term c.loop-owed.invariant c.loop-owed-test.true c.enter_term.ensures c.enter_term.auto.table c.in_ok-term.was
+enter_all-loop-owed-preserved t c = entering_term c.loop-owed.invariant c.loop-owed-test.true c.enter_term.ensures c.in_ok-term.was
 
 pub enter_all-returns : goal.enter_all-returns
 enter_all-returns t c = entering_ended c.loop-owed.invariant c.loop-owed-test.false

@@ -2,8 +2,8 @@
 -- those at the start, and the words counted with theirs are the subterm's. A body is entered by a call, with one abstraction more above it. What falls is
 -- twice the part's length, and one more in `enter_all`, which may lend the whole part.
 use Prim.Native.Nat.{◌+◌, ◌-◌, ◌*◌}
-use lib.ListN.{length, drop}
-use Rattle.symbols.specs.Rows.{rows_in}
+use lib.ListN.{length}
+use Rattle.symbols.specs.Table.{rows_of}
 use Rattle.symbols.proofs.Entering.{Entering}
 use Rattle.symbols.proofs.+enter_all_enter_term.Given as goal
 
@@ -14,7 +14,7 @@ abbrev pub decreases-enter_term : goal.decreases-enter_term
 decreases-enter_term l = 2 * length l.part.now
 
 abbrev pub invariant-enter_all-loop-owed : goal.invariant-enter_all-loop-owed
-invariant-enter_all-loop-owed l = Entering l.part l.under (rows_in (drop l.from l.initial.table)) l.table l.owed l.read l.first l.words
+invariant-enter_all-loop-owed l = Entering l.part l.under (rows_of l.initial.table) l.table l.owed l.read l.words
 
 abbrev pub decreases-enter_all-loop-owed : goal.decreases-enter_all-loop-owed
 decreases-enter_all-loop-owed l = length l.part - l.read

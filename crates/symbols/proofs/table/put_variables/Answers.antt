@@ -1,6 +1,6 @@
 use native.Mathlib.Omega.{arith}
 use Rattle.symbols.proofs.Stored.{putting_from, putting_on, putting_ended}
-use Rattle.symbols.proofs.put_variables.Goals as goal
+use Rattle.symbols.proofs.table.put_variables.Goals as goal
 
 pub loop-i-init : goal.loop-i-init
 loop-i-init c = let p = c.requires in putting_from p.0 p.1 p.2
