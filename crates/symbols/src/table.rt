@@ -39,14 +39,14 @@ impl SymbolTable {
         &self.words[self.first..]
     }
 
-    pub fn is_full(&self) -> bool
+    pub(crate) fn is_full(&self) -> bool
         ensures { result ≡ eqb (length (rows_of self.now)) 16 }
     {
         self.first == 0
     }
 
     // A row before the others.
-    pub fn enter(&mut self, name: u32, count: u32, above: u32, arguments: &[u32])
+    pub(crate) fn enter(&mut self, name: u32, count: u32, above: u32, arguments: &[u32])
         requires { Begins count arguments.now × (are_vars (terms count arguments.now) ≡ true) × (length (unvar (terms count arguments.now)) ≡ count) × (count ≤ 8) × (length (rows_of self.old) < 16) }
         ensures { rows_of self.new ≡ row name count above (unvar (terms count arguments.now)) ∷ rows_of self.old }
     {
