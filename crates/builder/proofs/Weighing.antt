@@ -25,7 +25,8 @@ use Rattle.measurer.specs.declared.Measured.{Measured}
 use Rattle.std.specs.Prelude.{Option, Some, None, Ok, Err}
 use Rattle.measurer.specs.Measuring.{Sequence, Measure, Measures}
 use Rattle.writer.specs.Written.{Wrote, Writes, Room, nstack}
-use Rattle.writer.specs.Wanted.{Ready, TreeAt}
+use Rattle.writer.specs.Wanted.{Going, TreeAt}
+use Rattle.writer.proofs.Walking.{going_of}
 use Rattle.writer.proofs.Calling.{nstack_empty, ready_whole}
 use Rattle.builder.specs.Weighing.{Building, weighed_for, Built, Weighs}
 use Rattle.builder.proofs.Readied.{scene_of, sequence, safe, term, ends, told}
@@ -158,8 +159,8 @@ module _ {code subject entries work : List ℕ} {z : ℕ} {u : Term} (b : Built 
   wanted = rw (nstack_empty 0 opened) b.tree
 
   pub may_write : (table : List ℕ) (end : ℕ) → length opened ≡ 128 → 2 * nodes u ≤ end → end ≤ length table
-      → Ready code subject entries work table opened end 0 0 (length code) × Room (TreeAt code subject entries work (length code) 0 0 0 (nstack 0 0 opened) z) end
-  may_write table end l fit h = (ready_whole opened b.scene h l, record { words = table_of u; wanted = wanted; fit = omega (arith, length_table_of u) })
+      → Going subject work table opened end 0 0 × Room (TreeAt code subject entries work (length code) 0 0 0 (nstack 0 0 opened) z) end
+  may_write table end l fit h = (going_of (ready_whole opened b.scene h l), record { words = table_of u; wanted = wanted; fit = omega (arith, length_table_of u) })
 
   pub written : {table table' : List ℕ} {r end : ℕ} → 2 * nodes u ≤ end
       → Writes (TreeAt code subject entries work (length code) 0 0 0 (nstack 0 0 opened) z) table table' r end

@@ -10,9 +10,11 @@ ghost use Rattle.writer.specs.Written.{Wrote};
 ghost use Rattle.builder.specs.Weighing.{Building, Built, Weighs};
 
 use documents::Refusal;
+use links::given::Given;
 use links::link::Link;
 use measurer::{Measured, measure};
 use tables::node::{MOST_DEPTH, PLAN_NODES};
+use writer::place::Place;
 use writer::write;
 
 // Indices reach one further than the highest of them, which may be 65,535.
@@ -67,20 +69,18 @@ pub fn put_before(
     ensures { (u : Term) → Built code.now subject.now entries.now work.now root u → 2 * nodes u ≤ end → Wrote table.old table.new (end - 2 * nodes u) end (table_of u) }
 {
     let mut opened = [0u32; OPENED];
-    write(
+    let given = Given {
         code,
         subject,
         entries,
-        work,
-        table,
-        &mut opened,
-        root,
-        end,
-        0,
-        0,
-        0,
-        code.len(),
-    );
+    };
+    let place = Place {
+        offset: 0,
+        lambdas: 0,
+        level: 0,
+        words: code.len(),
+    };
+    write(&given, work, table, &mut opened, root, end, place);
 }
 
 // How many nodes a result may have, for a result table of so many words.

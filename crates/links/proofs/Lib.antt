@@ -8,3 +8,4 @@ pub mod Safe
 pub mod Spread
 pub mod Keyed
 pub mod Stacks
+pub mod Scenes

@@ -2,3 +2,4 @@ pub mod Links
 pub mod Nodewise
 pub mod Standing
 pub mod Sequences
+pub mod Props

@@ -36,6 +36,21 @@ pub record Scene (code subject entries work : List ℕ) : Type 0 where
   pub entries_few : length entries ≤ 16
   pub stands : (e : ℕ) → e < length entries → (m : ℕ) × (entry_place entries e ≡ 2 * m) × (subterm (front subject) m ≡ some (entry_at subject entries e))
 
+-- .. what of it does not change while the working table does: what `Given` keeps
+pub record Known (code subject entries : List ℕ) : Type 0 where
+  pub code_short : length code ≤ 4096
+  pub table : table_of (front subject) ≡ subject
+  pub fits : Fits (front subject)
+  pub few : length subject ≤ 8192
+  pub shallow : depth (front subject) ≤ 64
+  pub entries_few : length entries ≤ 16
+  pub stands : (e : ℕ) → e < length entries → (m : ℕ) × ((entry_place entries e ≡ 2 * m) × (subterm (front subject) m ≡ some (entry_at subject entries e)))
+
+-- .. and what there is of it in the working table
+pub record Placed (subject work : List ℕ) : Type 0 where
+  pub work_long : 8192 ≤ length work
+  pub places : take (nodes (front subject)) (drop 4096 work) ≡ places_of 1 0 (front subject)
+
 -- A tree that the check has passed, with l open LAMBDAs: names and counts fit, and what it binds is open.
 abbrev pub Safe : {s : Sort} → ℕ → Tree s → Type 0
 Safe l (Cell s ps) = (s ≤ 65535) × (count ps ≤ 8) × Safe l ps

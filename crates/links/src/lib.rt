@@ -1,6 +1,7 @@
 // What the two walks of a result share, that which measures it and that which writes it: what stands in the working table, and the variables of an entry.
 #![tactic(auto)]
 
+pub mod given; // what a result is made of
 pub mod link; // what the working table holds of an instruction
 pub mod variable; // the variables of an entry
 

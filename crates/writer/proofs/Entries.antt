@@ -203,6 +203,11 @@ pub record Parted (subject entries part : List ℕ) (places e : ℕ) : Type 0 wh
   pub words : part ≡ take (2 * nodes (entry_at subject entries e)) (drop (entry_place entries e) subject)
   pub places_are : places ≡ 4096 + entry_place entries e / 2
 
+pub entry_part : {code subject entries work : List ℕ} {z first : ℕ} → first ≡ entry_place entries (get_or code (z + 1) 0)
+    → EntryPart code z (take (get_or work (z + 1) 0 - first) (drop first subject)) (4096 + first / 2) subject entries work
+entry_part {subject = subject} {work = work} {z = z} e =
+    record { part_is = ap (λ f. take (get_or work (z + 1) 0 - f) (drop f subject)) e; places_are = ap (λ f. 4096 + f / 2) e }
+
 pub named_parted : {code subject entries work part : List ℕ} {z places : ℕ} → NamedAt code subject entries work z → EntryPart code z part places subject entries work
     → Parted subject entries part places (get_or code (z + 1) 0)
 named_parted {code = code} {subject = subject} {entries = entries} {work = work} {z = z} n p =

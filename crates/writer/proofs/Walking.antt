@@ -13,9 +13,10 @@ use Rattle.instructions.specs.Bodies.{key_place}
 use Rattle.trees.proofs.Sizes.{depth_positive_of}
 use Rattle.links.specs.Links.{before_in, over_in}
 use Rattle.links.specs.Nodewise.{is_free, inside_of}
-use Rattle.links.specs.Standing.{entry_at}
+use Rattle.links.specs.Standing.{entry_at, Known}
+use Rattle.links.proofs.Scenes.{scene_of, placed_of}
 use Rattle.writer.specs.Written.{Wrote, Writes, Room, Same, nstack}
-use Rattle.writer.specs.Wanted.{Ready, arguments_at, lambdas_in, lambdas_around, is_constant, head_at, TreeAt, EntryPart, FreeAt, Met}
+use Rattle.writer.specs.Wanted.{Ready, Going, arguments_at, lambdas_in, lambdas_around, is_constant, head_at, TreeAt, EntryPart, FreeAt, Met}
 use Rattle.writer.proofs.Writings.{wrote_none, Splits, Exactly, writes_from, room_from, writes_then, room_last, room_rest, writes_below, writes_exactly}
 use Rattle.writer.proofs.Opened.{opened_same, nstack_same, nstack_raised, nstack_at, same_none, same_then, same_fewer, same_one, same_opened}
 use Rattle.writer.proofs.Nodes.{cell_arguments, constant_is, in_least, around_in, in_some}
@@ -26,6 +27,14 @@ use Rattle.writer.proofs.Entries.{PartAt, NodeAt, Parted, named_parted, parted_l
 use Rattle.writer.proofs.Freed.{free_falls, free_body}
 
 -- ---- The setting
+
+-- what is known of the parts, and what a call says
+pub ready_of : {code subject entries work d o : List ℕ} {end offset l words : ℕ} → Known code subject entries → l ≤ 63 → offset + 64 * words ≤ 1048576
+    → Going subject work d o end offset l → Ready code subject entries work d o end offset l words
+ready_of k f m g = record { scene = scene_of k g.placed; inside = g.inside; lambdas = f; long = g.long; low = g.low; small = m }
+
+pub going_of : {code subject entries work d o : List ℕ} {end offset l words : ℕ} → Ready code subject entries work d o end offset l words → Going subject work d o end offset l
+going_of y = record { placed = placed_of y.scene; inside = y.inside; long = y.long; low = y.low }
 
 module _ {code subject entries work d o : List ℕ} {end offset l words : ℕ} (y : Ready code subject entries work d o end offset l words) where
   -- further on

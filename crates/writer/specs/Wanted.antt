@@ -6,7 +6,10 @@ use Rattle.documents.specs.Instructions.{op_cell, op_pushimm}
 use Rattle.instructions.specs.Bodies.{key_place}
 use Rattle.trees.specs.Trees.{Tree, Pushed, or_one, depth_of, or_moved_words, words_of}
 use Rattle.links.specs.Nodewise.{is_free, seen_at}
-use Rattle.links.specs.Standing.{entry_place, entry_at, Scene, Safe, Spot, root, Stands}
+use Rattle.links.specs.Standing.{entry_place, entry_at, Scene, Placed, Safe, Spot, root, Stands}
+use Rattle.links.specs.declared.given.Given.{Given}
+use Rattle.writer.specs.declared.place.Place.{Place}
+use Rattle.writer.specs.Written.{nstack}
 
 -- The setting of the walk: OFFSET and `opened`, that holds OFFSET at each of l open LAMBDAs. A body's words are fewer than those around it, and it stands
 -- under fewer than 64 abstractions of its entry, so OFFSET stays small.
@@ -17,6 +20,13 @@ pub record Ready (code subject entries work result opened : List ℕ) (end offse
   pub long : length opened ≡ 128
   pub low : (i : ℕ) → i < l → get_or opened i 0 ≤ offset
   pub small : offset + 64 * words ≤ 1048576
+
+-- .. what of it is not known of the parts themselves
+pub record Going (subject work result opened : List ℕ) (end offset l : ℕ) : Type 0 where
+  pub placed : Placed subject work
+  pub inside : end ≤ length result
+  pub long : length opened ≡ 128
+  pub low : (i : ℕ) → i < l → get_or opened i 0 ≤ offset
 
 -- Of a CELL or ADBMAL: how many terms it takes, how many LAMBDAs are open in these, how many around it if so many are open in these, whether it is a
 -- symbol without arguments, and the word of its node.
@@ -67,6 +77,13 @@ module _ (code subject entries work : List ℕ) (words l : ℕ) where
       pub standing : Standing (Pushed e D ks bodies) (root z)
       pub shallow : level + or_one (assoc (pairlists ks (depth_of (entry_at subject entries) bodies)) (x - n)) ≤ 64
       pub these : ws ≡ or_moved_words (assoc (pairlists ks (words_of (entry_at subject entries) bodies)) (x - n)) D n x offset nst
+
+-- the same, of what is given and the place where it stands
+abbrev pub TreeFor : Given → List ℕ → List ℕ → Place → ℕ → List ℕ → Type 0
+TreeFor given work opened p z = TreeAt given.code.now given.subject.now given.entries.now work p.words p.lambdas p.level p.offset (nstack p.offset p.lambdas opened) z
+
+abbrev pub FreeFor : Given → List ℕ → List ℕ → Place → ℕ → ℕ → ℕ → List ℕ → Type 0
+FreeFor given work opened p z x n = FreeAt given.code.now given.subject.now given.entries.now work p.words p.lambdas p.level p.offset (nstack p.offset p.lambdas opened) z x n
 
 -- the entry of a PUSHI, as the part of the subject from its place to its noted end, and where the places of its nodes begin
 pub record EntryPart (code : List ℕ) (z : ℕ) (part : List ℕ) (places : ℕ) (subject entries work : List ℕ) : Type 0 where

@@ -3,11 +3,15 @@
 
 ghost use Rattle.std.specs.Prelude.{◌≡◌, [], ◌∷◌, ◌+◌, ◌-◌, ◌≤◌, ◌<◌, length, get_or};
 ghost use Rattle.documents.specs.Instructions.{op_cell, op_pushvar, op_pushimm, op_pushi};
-ghost use Rattle.writer.specs.Written.{Wrote, Writes, Room, Same, nstack};
-ghost use Rattle.writer.specs.Wanted.{Ready, arguments_at, lambdas_in, lambdas_around, is_constant, head_at, moves_nothing, TreeAt, EntryPart, FreeAt, Met};
+ghost use Rattle.writer.specs.Written.{Wrote, Writes, Room, Same};
+ghost use Rattle.writer.specs.Wanted.{Going, arguments_at, lambdas_in, lambdas_around, is_constant, head_at, moves_nothing, EntryPart, Met, TreeFor, FreeFor};
 
+pub mod place; // where in a result a tree is written
+
+use crate::place::Place;
 use documents::op::{CELL, PUSHIMM, PUSHVAR};
 use instructions::body::find;
+use links::given::Given;
 use links::link::Link;
 use links::variable::{is_free, moved};
 use links::{LEVEL, NODES_AT};
@@ -20,36 +24,30 @@ const ABOVE_AT: usize = 64;
 // A node above is its place in the code times this, and how many trees are to be written before it.
 const TREES: u32 = 16;
 
-// The tree whose root is given, before a place of the result. Answers where it begins. OFFSET is `offset`, l LAMBDAs are open, `opened` holds OFFSET at
-// each. The last tree that a node takes is written first, the node itself after the first of them; until then it waits in `opened`, where `level`
-// nodes further out wait. So only a body takes a call. The tree stands in at most `words` words of the code, fewer in a body than around it: so the
-// walk ends.
+// The tree whose root is given, before a place of the result. Answers where it begins. `opened` holds OFFSET at each open LAMBDA. The last tree that a
+// node takes is written first, the node itself after the first of them; until then it waits in `opened`. So only a body takes a call.
 #[cycle(write_write_entry_write_free_write_leaf)]
 pub fn write(
-    code: &[u32],
-    subject: &[u32],
-    entries: &[u32],
+    given: &Given,
     work: &[u32],
     res: &mut [u32],
     opened: &mut [u32],
     root: usize,
     end: usize,
-    offset: u32,
-    l: usize,
-    level: usize,
-    words: usize,
+    place: Place,
 ) -> usize
-    requires { Ready code.now subject.now entries.now work.now res.old opened.old end offset l words × Room (TreeAt code.now subject.now entries.now work.now words l level offset (nstack offset l opened.old) root) end }
-    ensures { Writes (TreeAt code.now subject.now entries.now work.now words l level offset (nstack offset l opened.old) root) res.old res.new result end × Same l level opened.old opened.new }
+    requires { Going given.now.subject.now work.now res.old opened.old end place.offset place.lambdas × Room (TreeFor given.now work.now opened.old place root) end }
+    ensures { Writes (TreeFor given.now work.now opened.old place root) res.old res.new result end × Same place.lambdas place.level opened.old opened.new }
 {
+    let code = given.code;
     let mut at = root;
     let mut left: u32 = 1;
     let mut to = end;
-    let mut lambdas = l;
-    let mut kept = level;
+    let mut lambdas = place.lambdas;
+    let mut kept = place.level;
     loop {
         if left == 0 {
-            if kept == level {
+            if kept == place.level {
                 return to;
             }
             kept -= 1;
@@ -61,7 +59,7 @@ pub fn write(
         } else if code[at] < PUSHVAR {
             opened[ABOVE_AT + kept] = at as u32 * TREES + (left - 1);
             kept += 1;
-            opened[lambdas] = offset;
+            opened[lambdas] = place.offset;
             lambdas = inner(code, at, lambdas);
             left = arguments(code, at);
             at = Link(work[at]).over();
@@ -69,9 +67,13 @@ pub fn write(
             let here = at;
             at = Link(work[here]).before();
             left -= 1;
-            to = write_leaf(
-                code, subject, entries, work, res, opened, here, to, offset, lambdas, kept, words,
-            );
+            let here_at = Place {
+                offset: place.offset,
+                lambdas,
+                level: kept,
+                words: place.words,
+            };
+            to = write_leaf(given, work, res, opened, here, to, here_at);
         }
     }
 }
@@ -138,46 +140,42 @@ fn put(res: &mut [u32], end: usize, word: u32, count: u32) -> usize
 // A PUSHVAR, PUSHIMM or PUSHI.
 #[cycle(write_write_entry_write_free_write_leaf)]
 fn write_leaf(
-    code: &[u32],
-    subject: &[u32],
-    entries: &[u32],
+    given: &Given,
     work: &[u32],
     res: &mut [u32],
     opened: &mut [u32],
     at: usize,
     end: usize,
-    offset: u32,
-    l: usize,
-    level: usize,
-    words: usize,
+    place: Place,
 ) -> usize
-    requires { Ready code.now subject.now entries.now work.now res.old opened.old end offset l words × Room (TreeAt code.now subject.now entries.now work.now words l level offset (nstack offset l opened.old) at) end × (op_pushvar ≤ get_or code.now at 0) }
-    ensures { Writes (TreeAt code.now subject.now entries.now work.now words l level offset (nstack offset l opened.old) at) res.old res.new result end × Same l level opened.old opened.new }
+    requires { Going given.now.subject.now work.now res.old opened.old end place.offset place.lambdas × Room (TreeFor given.now work.now opened.old place at) end × (op_pushvar ≤ get_or given.now.code.now at 0) }
+    ensures { Writes (TreeFor given.now work.now opened.old place at) res.old res.new result end × Same place.lambdas place.level opened.old opened.new }
 {
+    let code = given.code;
     let operand = code[at + 1];
     if code[at] == PUSHVAR {
-        return put(res, end, bound(operand, opened, offset, l), 0);
+        return put(
+            res,
+            end,
+            bound(operand, opened, place.offset, place.lambdas),
+            0,
+        );
     }
-    let first = entries[entries.len() - 1 - operand as usize] as usize;
-    let last = work[at + 1] as usize;
-    if moves_nothing(code, at, offset) {
-        return copy(&subject[first..last], res, end);
+    let first = given.entry(operand);
+    let part = &given.subject[first..work[at + 1] as usize];
+    if moves_nothing(code, at, place.offset) {
+        return copy(part, res, end);
     }
     write_entry(
-        code,
-        at,
-        &subject[first..last],
-        NODES_AT + first / 2,
-        subject,
-        entries,
+        given,
         work,
         res,
         opened,
+        at,
+        part,
+        NODES_AT + first / 2,
         end,
-        offset,
-        l,
-        level,
-        words,
+        place,
     )
 }
 
@@ -211,23 +209,18 @@ fn copy(part: &[u32], res: &mut [u32], end: usize) -> usize
 // The walk of an entry, handed on as a part of the subject, from its last node to its first.
 #[cycle(write_write_entry_write_free_write_leaf)]
 fn write_entry(
-    code: &[u32],
-    push: usize,
-    part: &[u32],
-    places: usize,
-    subject: &[u32],
-    entries: &[u32],
+    given: &Given,
     work: &[u32],
     res: &mut [u32],
     opened: &mut [u32],
+    push: usize,
+    part: &[u32],
+    places: usize,
     end: usize,
-    offset: u32,
-    l: usize,
-    level: usize,
-    words: usize,
+    place: Place,
 ) -> usize
-    requires { Ready code.now subject.now entries.now work.now res.old opened.old end offset l words × Room (TreeAt code.now subject.now entries.now work.now words l level offset (nstack offset l opened.old) push) end × (get_or code.now push 0 ≡ op_pushi) × EntryPart code.now push part.now places subject.now entries.now work.now }
-    ensures { Writes (TreeAt code.now subject.now entries.now work.now words l level offset (nstack offset l opened.old) push) res.old res.new result end × Same l level opened.old opened.new }
+    requires { Going given.now.subject.now work.now res.old opened.old end place.offset place.lambdas × Room (TreeFor given.now work.now opened.old place push) end × (get_or given.now.code.now push 0 ≡ op_pushi) × EntryPart given.now.code.now push part.now places given.now.subject.now given.now.entries.now work.now }
+    ensures { Writes (TreeFor given.now work.now opened.old place push) res.old res.new result end × Same place.lambdas place.level opened.old opened.new }
 {
     let root = work[places];
     let mut to = end;
@@ -235,10 +228,7 @@ fn write_entry(
         let word = part[2 * node];
         let inside = (work[places + node] - root) % LEVEL;
         to = if is_free(word, inside) {
-            write_free(
-                code, push, word, inside, subject, entries, work, res, opened, to, offset, l,
-                level, words,
-            )
+            write_free(given, work, res, opened, push, word, inside, to, place)
         } else {
             put(res, to, word, part[2 * node + 1])
         };
@@ -250,51 +240,37 @@ fn write_entry(
 // variable or one symbol, which need no call.
 #[cycle(write_write_entry_write_free_write_leaf)]
 fn write_free(
-    code: &[u32],
-    push: usize,
-    word: u32,
-    inside: u32,
-    subject: &[u32],
-    entries: &[u32],
+    given: &Given,
     work: &[u32],
     res: &mut [u32],
     opened: &mut [u32],
+    push: usize,
+    word: u32,
+    inside: u32,
     end: usize,
-    offset: u32,
-    l: usize,
-    level: usize,
-    words: usize,
+    place: Place,
 ) -> usize
-    requires { Ready code.now subject.now entries.now work.now res.old opened.old end offset l words × Room (FreeAt code.now subject.now entries.now work.now words l level offset (nstack offset l opened.old) push word inside) end × Met code.now work.now push word inside }
-    ensures { Writes (FreeAt code.now subject.now entries.now work.now words l level offset (nstack offset l opened.old) push word inside) res.old res.new result end × Same l level opened.old opened.new }
+    requires { Going given.now.subject.now work.now res.old opened.old end place.offset place.lambdas × Room (FreeFor given.now work.now opened.old place push word inside) end × Met given.now.code.now work.now push word inside }
+    ensures { Writes (FreeFor given.now work.now opened.old place push word inside) res.old res.new result end × Same place.lambdas place.level opened.old opened.new }
 {
+    let code = given.code;
     let Some(key) = find(code, push + 4, code[push + 3], word - inside) else {
-        return put(res, end, moved(word, code[push + 2] + offset), 0);
+        return put(res, end, moved(word, code[push + 2] + place.offset), 0);
     };
     let root = work[key] as usize;
+    let offset = place.offset + inside;
     if code[root] == PUSHVAR {
-        return put(
-            res,
-            end,
-            bound(code[root + 1], opened, offset + inside, l),
-            0,
-        );
+        let index = bound(code[root + 1], opened, offset, place.lambdas);
+        return put(res, end, index, 0);
     }
     if is_constant(code, root) {
         return put(res, end, head(code, root), 0);
     }
-    write(
-        code,
-        subject,
-        entries,
-        work,
-        res,
-        opened,
-        root,
-        end,
-        offset + inside,
-        l,
-        level,
-        code[key + 1] as usize,
-    )
+    let under = Place {
+        offset,
+        lambdas: place.lambdas,
+        level: place.level,
+        words: code[key + 1] as usize,
+    };
+    write(given, work, res, opened, root, end, under)
 }
