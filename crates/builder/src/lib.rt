@@ -12,6 +12,7 @@ ghost use Rattle.builder.specs.Weighing.{Building, Built, Weighs};
 use documents::Refusal;
 use links::given::Given;
 use links::link::Link;
+use measurer::walk::Walk;
 use measurer::{Measured, measure};
 use tables::node::{MOST_DEPTH, PLAN_NODES};
 use writer::place::Place;
@@ -43,8 +44,13 @@ pub fn weigh(
     requires { Building code.now at subject.now entries.now work.old × (room ≤ 4096) × (1 ≤ level) × (level ≤ 64) }
     ensures { Weighs code.now subject.now entries.now work.old work.new room level result }
 {
-    let end = code.len();
-    let made = measure(code, at, end, subject, entries, work, room);
+    let given = Given {
+        code,
+        subject,
+        entries,
+    };
+    let walk = Walk { given, most: room };
+    let made = measure(&walk, at, code.len(), work);
     let Measured { nodes, reach, root } = made.ok_or(Refusal::ResultTooLarge)?;
     if MOST_DEPTH + 1 < level + Link(work[root]).depth() as usize {
         return Err(Refusal::ResultTooDeep);

@@ -9,3 +9,4 @@ pub mod Spreading
 pub mod Pushing
 pub mod Answering
 pub mod Walked
+pub mod Asking

@@ -10,7 +10,7 @@ use Rattle.instructions.specs.Bodies.{body_end, key_place, place_behind}
 use Rattle.trees.specs.Trees.{Tree, Whole, Pushed, or_one, or_moved, spread_nodes, spread_depth, spread_reach, nodes_of, depth_of, reach_of}
 use Rattle.links.specs.Links.{capped, note_of}
 use Rattle.links.specs.Nodewise.{seen_at}
-use Rattle.links.specs.Standing.{entry_place, entry_at, Scene, root, held, Named, Seen, Stands}
+use Rattle.links.specs.Standing.{entry_place, entry_at, Scene, Placed, root, held, Named, Seen, Stands}
 use Rattle.links.specs.Sequences.{tree_at, Sequenced, Bodied, keys_at, trees_at}
 use Rattle.measurer.specs.Linking.{place_next}
 use Rattle.measurer.specs.declared.Measured.{Measured}
@@ -32,6 +32,14 @@ near n = 65664 + 64 * n
 pub record Sequence (code : List ℕ) (from end : ℕ) (subject entries work : List ℕ) (most : ℕ) : Type 0 where
   pub scene : Scene code subject entries work
   pub few : most ≤ 4096
+  pub positive : 1 ≤ from
+  pub ordered : from ≤ end
+  pub inside : end ≤ length code
+  pub makes : Sequenced code from end (length entries)
+
+-- .. what of it is not known of the parts themselves
+pub record AsksSequence (code : List ℕ) (from end : ℕ) (subject entries work : List ℕ) : Type 0 where
+  pub placed : Placed subject work
   pub positive : 1 ≤ from
   pub ordered : from ≤ end
   pub inside : end ≤ length code
@@ -64,6 +72,14 @@ push_tree code at =
 pub record Push (code : List ℕ) (at : ℕ) (subject entries work : List ℕ) (most : ℕ) : Type 0 where
   pub scene : Scene code subject entries work
   pub few : most ≤ 4096
+  pub op : (get_or code at 0 ≡ op_pushimm) ⊎ (get_or code at 0 ≡ op_pushi)
+  pub words : at + 2 ≤ length code
+  pub entry : get_or code (at + 1) 0 < length entries
+  pub bodies : get_or code at 0 ≡ op_pushi → (at + 4 ≤ length code) × (get_or code (at + 2) 0 ≤ 127) × Bodied code (at + 4) (get_or code (at + 3) 0) (length entries)
+
+-- .. what of it is not known of the parts themselves
+pub record AsksPush (code : List ℕ) (at : ℕ) (subject entries work : List ℕ) : Type 0 where
+  pub placed : Placed subject work
   pub op : (get_or code at 0 ≡ op_pushimm) ⊎ (get_or code at 0 ≡ op_pushi)
   pub words : at + 2 ≤ length code
   pub entry : get_or code (at + 1) 0 < length entries
@@ -136,6 +152,16 @@ pub record Spreading (code : List ℕ) (push c D : ℕ) (part : List ℕ) (place
   pub makes : Bodied code (push + 4) c (length entries)
   pub memos : Memos code subject entries work (push + 4) c
 
+-- .. what of it is not known of the parts themselves
+pub record AsksSpread (code : List ℕ) (push c : ℕ) (part : List ℕ) (places : ℕ) (subject entries work : List ℕ) : Type 0 where
+  pub placed : Placed subject work
+  pub words : push + 2 ≤ length code
+  pub entry : get_or code (push + 1) 0 < length entries
+  pub part_is : part ≡ drop (entry_place entries (get_or code (push + 1) 0)) subject
+  pub places_are : places ≡ 4096 + entry_place entries (get_or code (push + 1) 0) / 2
+  pub makes : Bodied code (push + 4) c (length entries)
+  pub memos : Memos code subject entries work (push + 4) c
+
 module _ (code subject entries work' : List ℕ) (push c D most : ℕ) where
   pub record Spanning (n d far : ℕ) : Type 0 where
     pub size : n ≡ spread_nodes (nodes_for code subject entries (push + 4) c) 0 (entry_at subject entries (get_or code (push + 1) 0))
@@ -162,6 +188,16 @@ pub record Free (code : List ℕ) (push c D w inside : ℕ) (subject entries wor
   pub free : inside ≤ w
   pub shallow : inside < 64
   pub low : D ≤ 127
+  pub makes : Bodied code (push + 4) c (length entries)
+  pub memos : Memos code subject entries work (push + 4) c
+
+-- .. what of it is not known of the parts themselves
+pub record AsksFree (code : List ℕ) (push c w inside : ℕ) (subject entries work : List ℕ) : Type 0 where
+  pub placed : Placed subject work
+  pub words : push + 2 ≤ length code
+  pub variable : w < 65536
+  pub free : inside ≤ w
+  pub shallow : inside < 64
   pub makes : Bodied code (push + 4) c (length entries)
   pub memos : Memos code subject entries work (push + 4) c
 

@@ -6,14 +6,17 @@ ghost use Rattle.std.specs.Prelude.{◌≡◌, ◌+◌, ◌-◌, ◌<◌, ◌≤
 ghost use Rattle.instructions.specs.Bodies.{Readable};
 ghost use Rattle.trees.specs.Trees.{further};
 ghost use Rattle.measurer.specs.Linking.{over_link, plain_link, place_next, forgotten};
-ghost use Rattle.measurer.specs.Measuring.{Sequence, Measures, Push, Pushes, Spreading, Spreads, Free, Frees};
+ghost use Rattle.measurer.specs.Measuring.{AsksSequence, Measures, AsksPush, Pushes, AsksSpread, Spreads, AsksFree, Frees};
 
+use crate::walk::{Push, Walk};
 use documents::op::{ADBMAL, LAMBDA, PUSHIMM, PUSHVAR, fixed_words};
 use instructions::body::{behind, find};
 use links::link::{Link, Note};
 use links::variable::{is_free, moved};
 use links::{LEVEL, NODES_AT};
 use tables::compare::D_SHIFT;
+
+pub mod walk; // what a result is measured from
 
 // Depths over the limit are not told apart.
 const OVER_DEPTH: u32 = 65;
@@ -36,18 +39,11 @@ pub struct Span {
 
 // Instructions that make one term, to their end; nothing as soon as there are too many nodes.
 #[cycle(free_measure_push_spread)]
-pub fn measure(
-    code: &[u32],
-    from: usize,
-    end: usize,
-    subject: &[u32],
-    entries: &[u32],
-    work: &mut [u32],
-    most: usize,
-) -> Option<Measured>
-    requires { Sequence code.now from end subject.now entries.now work.old most }
-    ensures { Measures code.now from end subject.now entries.now work.old work.new most result }
+pub fn measure(walk: &Walk, from: usize, end: usize, work: &mut [u32]) -> Option<Measured>
+    requires { AsksSequence walk.now.given.code.now from end walk.now.given.subject.now walk.now.given.entries.now work.old }
+    ensures { Measures walk.now.given.code.now from end walk.now.given.subject.now walk.now.given.entries.now work.old work.new walk.now.most result }
 {
+    let code = walk.given.code;
     let mut at = from;
     let mut last: usize = 0;
     let mut sum: usize = 0;
@@ -58,7 +54,7 @@ pub fn measure(
         if op == LAMBDA {
             at += 1;
         } else if op < PUSHIMM {
-            if most <= sum {
+            if walk.most <= sum {
                 return None;
             }
             put_link(code, at, work, last);
@@ -66,8 +62,8 @@ pub fn measure(
             last = at;
             at = at + 1 + fixed_words(op as usize) as usize;
         } else {
-            let span = push(code, at, subject, entries, work, most)?;
-            if most - sum < span.nodes {
+            let span = push(walk, at, work)?;
+            if walk.most - sum < span.nodes {
                 return None;
             }
             work[at] = Link::new(last, 0, span.depth).0;
@@ -136,47 +132,30 @@ fn next(code: &[u32], at: usize) -> usize
 
 // A PUSHI, or a PUSHIMM, which has no bodies and moves nothing. The entry is handed on as the part of the subject that begins with it.
 #[cycle(free_measure_push_spread)]
-fn push(
-    code: &[u32],
-    at: usize,
-    subject: &[u32],
-    entries: &[u32],
-    work: &mut [u32],
-    most: usize,
-) -> Option<Span>
-    requires { Push code.now at subject.now entries.now work.old most }
-    ensures { Pushes code.now at subject.now entries.now work.old work.new most result }
+fn push(walk: &Walk, at: usize, work: &mut [u32]) -> Option<Span>
+    requires { AsksPush walk.now.given.code.now at walk.now.given.subject.now walk.now.given.entries.now work.old }
+    ensures { Pushes walk.now.given.code.now at walk.now.given.subject.now walk.now.given.entries.now work.old work.new walk.now.most result }
 {
-    let first = entries[entries.len() - 1 - code[at + 1] as usize] as usize;
+    let code = walk.given.code;
+    let first = walk.given.entry(code[at + 1]);
+    let part = &walk.given.subject[first..];
+    let places = NODES_AT + first / 2;
     if code[at] == PUSHIMM {
-        let span = spread(
-            code,
+        let whole = Push {
             at,
-            0,
-            D_SHIFT,
-            &subject[first..],
-            NODES_AT + first / 2,
-            subject,
-            entries,
-            work,
-            most,
-        )?;
+            count: 0,
+            shift: D_SHIFT,
+        };
+        let span = spread(walk, whole, part, places, work)?;
         return Some(Span { reach: 0, ..span });
     }
-    let count = code[at + 3];
-    forget(code, at + 4, count, work);
-    spread(
-        code,
+    let push = Push {
         at,
-        count,
-        code[at + 2],
-        &subject[first..],
-        NODES_AT + first / 2,
-        subject,
-        entries,
-        work,
-        most,
-    )
+        count: code[at + 3],
+        shift: code[at + 2],
+    };
+    forget(code, at + 4, push.count, work);
+    spread(walk, push, part, places, work)
 }
 
 // None of so many bodies is measured yet.
@@ -196,20 +175,9 @@ fn forget(code: &[u32], bodies: usize, count: u32, work: &mut [u32])
 // A place is a depth times LEVEL, and abstractions below that: the highest place has the greatest depth, so that one division does for all nodes. What
 // is deeper through bodies is kept apart.
 #[cycle(free_measure_push_spread)]
-fn spread(
-    code: &[u32],
-    push: usize,
-    count: u32,
-    shift: u32,
-    part: &[u32],
-    places: usize,
-    subject: &[u32],
-    entries: &[u32],
-    work: &mut [u32],
-    most: usize,
-) -> Option<Span>
-    requires { Spreading code.now push count shift part.now places subject.now entries.now work.old most }
-    ensures { Spreads code.now push count shift part.now places subject.now entries.now work.old work.new most result }
+fn spread(walk: &Walk, push: Push, part: &[u32], places: usize, work: &mut [u32]) -> Option<Span>
+    requires { AsksSpread walk.now.given.code.now push.at push.count part.now places walk.now.given.subject.now walk.now.given.entries.now work.old }
+    ensures { Spreads walk.now.given.code.now push.at push.count push.shift part.now places walk.now.given.subject.now walk.now.given.entries.now work.old work.new walk.now.most result }
 {
     let root = work[places];
     let mut owed: usize = 1;
@@ -226,27 +194,16 @@ fn spread(
         node += 1;
         highest = highest.max(here);
         if is_free(word, here % LEVEL) {
-            let span = free(
-                code,
-                push,
-                count,
-                shift,
-                word,
-                here % LEVEL,
-                subject,
-                entries,
-                work,
-                most,
-            )?;
+            let span = free(walk, push, word, here % LEVEL, work)?;
             more += span.nodes - 1;
-            if most < more {
+            if walk.most < more {
                 return None;
             }
             deepest = deepest.max(here / LEVEL + span.depth);
             farthest = farthest.max(span.reach);
         }
     }
-    work[push + 1] = (2 * (places - NODES_AT + node)) as u32;
+    work[push.at + 1] = (2 * (places - NODES_AT + node)) as u32;
     Some(Span {
         nodes: node + more,
         depth: deepest.max(highest / LEVEL + 1).min(OVER_DEPTH),
@@ -256,34 +213,22 @@ fn spread(
 
 // A variable that is free in an entry, under so many abstractions of it. A body is measured where it is first met.
 #[cycle(free_measure_push_spread)]
-fn free(
-    code: &[u32],
-    push: usize,
-    count: u32,
-    shift: u32,
-    word: u32,
-    inside: u32,
-    subject: &[u32],
-    entries: &[u32],
-    work: &mut [u32],
-    most: usize,
-) -> Option<Span>
-    requires { Free code.now push count shift word inside subject.now entries.now work.old most }
-    ensures { Frees code.now push count shift word inside subject.now entries.now work.old work.new most result }
+fn free(walk: &Walk, push: Push, word: u32, inside: u32, work: &mut [u32]) -> Option<Span>
+    requires { AsksFree walk.now.given.code.now push.at push.count word inside walk.now.given.subject.now walk.now.given.entries.now work.old }
+    ensures { Frees walk.now.given.code.now push.at push.count push.shift word inside walk.now.given.subject.now walk.now.given.entries.now work.old work.new walk.now.most result }
 {
-    let Some(key) = find(code, push + 4, count, word - inside) else {
+    let code = walk.given.code;
+    let Some(key) = find(code, push.at + 4, push.count, word - inside) else {
         return Some(Span {
             nodes: 1,
             depth: 1,
-            reach: moved(word, shift) + 1,
+            reach: moved(word, push.shift) + 1,
         });
     };
     if work[key] == 0 {
         let from = key + 2;
         let end = from + code[key + 1] as usize;
-        let Measured { nodes, reach, root } = measure(
-            code, from, end, subject, entries, work, most,
-        )?;
+        let Measured { nodes, reach, root } = measure(walk, from, end, work)?;
         work[key] = root as u32;
         work[key + 1] = Note::new(nodes, reach).0;
         return Some(Span {

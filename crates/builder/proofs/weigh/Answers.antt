@@ -2,12 +2,17 @@ use mathlib.Core.Path.{◌≡◌}
 use native.Mathlib.Omega.{arith}
 use Rattle.std.proofs.lemmas.Result.{err_from_is_err_and}
 use Rattle.documents.specs.declared.Refusal.TheVariants.{ResultTooLarge}
+use Rattle.links.proofs.Scenes.{known_of}
+use Rattle.measurer.proofs.Asking.{asks_sequence}
 use Rattle.builder.proofs.Weighing.{asks, too_large, root_within, too_deep, too_far, fits}
 use borrow.Author.Rules.{rules}
 use Rattle.builder.proofs.weigh.Goals as goal
 
+pub invariant_of-given : goal.invariant_of-given
+invariant_of-given c = record { known = known_of (asks c.requires.0 c.requires.1 c.requires.2).scene }
+
 pub measure-made-requires : goal.measure-made-requires
-measure-made-requires c = asks c.requires.0 c.requires.1 c.requires.2
+measure-made-requires c = asks_sequence (asks c.requires.0 c.requires.1 c.requires.2)
 
 pub returns-in_err-nodes : goal.returns-in_err-nodes
 returns-in_err-nodes c =

@@ -10,25 +10,25 @@ use Rattle.measurer.proofs.Spreading.{Spanned}
 use Rattle.measurer.proofs.+free_measure_push_spread.Given as goal
 
 abbrev pub decreases-free : goal.decreases-free
-decreases-free l = 4 * (push_end l.code.now l.push l.count - l.push)
+decreases-free l = 4 * (push_end l.walk.now.given.code.now l.push.at l.push.count - l.push.at)
 
 abbrev pub decreases-measure : goal.decreases-measure
 decreases-measure l = 4 * (l.end - l.from) + 3
 
 abbrev pub decreases-push : goal.decreases-push
-decreases-push l = 4 * (place_next l.code.now l.at - l.at) + 2
+decreases-push l = 4 * (place_next l.walk.now.given.code.now l.at - l.at) + 2
 
 abbrev pub decreases-spread : goal.decreases-spread
-decreases-spread l = 4 * (push_end l.code.now l.push l.count - l.push) + 1
+decreases-spread l = 4 * (push_end l.walk.now.given.code.now l.push.at l.push.count - l.push.at) + 1
 
 abbrev pub invariant-measure-loop-at : goal.invariant-measure-loop-at
-invariant-measure-loop-at l = Growing l.code l.subject l.entries l.initial.work l.from l.end l.most l.work l.at l.last l.sum l.farthest
+invariant-measure-loop-at l = Growing l.walk.given.code.now l.walk.given.subject.now l.walk.given.entries.now l.initial.work l.from l.end l.walk.most l.work l.at l.last l.sum l.farthest
 
 abbrev pub decreases-measure-loop-at : goal.decreases-measure-loop-at
 decreases-measure-loop-at l = l.end - l.at
 
 abbrev pub invariant-spread-loop-owed : goal.invariant-spread-loop-owed
-invariant-spread-loop-owed l = Spanned l.code l.push l.count l.shift l.part l.places l.subject l.entries l.initial.work l.most l.work l.owed l.node l.more l.highest l.deepest l.farthest × (l.root ≡ get_or l.initial.work l.places 0)
+invariant-spread-loop-owed l = Spanned l.walk.given.code.now l.push.at l.push.count l.push.shift l.part l.places l.walk.given.subject.now l.walk.given.entries.now l.initial.work l.walk.most l.work l.owed l.node l.more l.highest l.deepest l.farthest × (l.root ≡ get_or l.initial.work l.places 0)
 
 abbrev pub decreases-spread-loop-owed : goal.decreases-spread-loop-owed
 decreases-spread-loop-owed l = length l.part - 2 * l.node
