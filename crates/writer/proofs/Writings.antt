@@ -1,10 +1,10 @@
 -- Words written before a place, one run before the other.
 use mathlib.Core.Path.{◌≡◌, refl, sym, ap, ap₂, ◌∙◌}
-use Prim.Native.Nat.{ℕ, suc, ◌+◌, ◌-◌, ◌≤◌}
+use Prim.Native.Nat.{ℕ, suc, ◌+◌, ◌-◌, ◌≤◌, ◌<◌}
 use native.Mathlib.Omega.{arith}
-use mathlib.Core.List.{List, [], ◌∷◌, ◌++◌, append_assoc}
-use lib.ListN.{length, take, drop, get_or, set, length-append, length-set}
-use lib.Seq.{take-take, take-set-le, drop-cons, drop-set-lt, get_or-set_same, get_or-set_other}
+use mathlib.Core.List.{List, [], ◌∷◌, ◌++◌, append_assoc, append-nil}
+use lib.ListN.{length, take, drop, get_or, set, length-append, length-set, take-append-drop}
+use lib.Seq.{take-take, take_at, take-suc, take-suc-set, take-set-le, take-length, length-take-le, drop_at, drop-cons, drop-drop, drop-set-lt, get_or-set_same, get_or-set_other}
 use Rattle.writer.specs.Written.{Wrote, Writes, Room}
 
 pub wrote_none : (d : List ℕ) (end : ℕ) → Wrote d d end end []
@@ -38,6 +38,53 @@ wrote_two d end x c h k = record {
   before = take-set-le (end - 2) (set d (end - 2) x) (end - 1) c (omega arith) ∙ take-set-le (end - 2) d (end - 2) x (omega arith);
   behind = stored d end x c h k;
 }
+
+-- ---- A part copied to place a: i words of it stand there
+
+pub record Copying (d e part : List ℕ) (a i : ℕ) : Type 0 where
+  pub within : i ≤ length part
+  pub same_length : length e ≡ length d
+  pub front : take (a + i) e ≡ take a d ++ take i part
+  pub behind : drop (a + i) e ≡ drop (a + i) d
+
+pub copying_none : (d part : List ℕ) (a : ℕ) → Copying d d part a 0
+copying_none d part a = record {
+  within = omega arith;
+  same_length = refl;
+  front = let z : a + 0 ≡ a = omega arith in rw z (sym (append-nil (take a d)));
+  behind = refl;
+}
+
+module _ {d e part : List ℕ} {a i : ℕ} (c : Copying d e part a i) where
+  pub copying_more : i < length part → a + length part ≤ length d → Copying d (set e (a + i) (get_or part i 0)) part a (i + 1)
+  copying_more h k =
+      let w = get_or part i 0 in
+      let n = c.same_length in
+      let z : a + (i + 1) ≡ suc (a + i) = omega arith in
+      let y : i + 1 ≡ suc i = omega arith in
+      let v : suc (a + i) ≡ a + i + 1 = omega arith in
+      record {
+        within = omega arith;
+        same_length = length-set e (a + i) w ∙ n;
+        front = rw (z, y, take-suc part i 0 h) (take-suc-set e (a + i) w (omega arith) ∙ ap (λ (l : List ℕ). l ++ (w ∷ [])) c.front ∙ append_assoc (take a d) (take i part) (w ∷ []));
+        behind = rw z (drop-set-lt (suc (a + i)) e (a + i) w (omega arith) ∙ rw v (sym (drop-drop 1 (a + i) e) ∙ ap (λ (l : List ℕ). drop 1 l) c.behind ∙ drop-drop 1 (a + i) d));
+      }
+
+  pub copied : length part ≤ i → (end : ℕ) → a + length part ≡ end → end ≤ length d → Wrote d e a end part
+  copied h end f k =
+      let n = c.same_length in
+      let j : i ≡ length part = let w = c.within in omega arith in
+      let z : a + i ≡ end = omega arith in
+      let t : take end e ≡ take a d ++ part = ap (λ m. take m e) (sym z) ∙ c.front ∙ ap (λ m. take a d ++ take m part) j ∙ ap (λ (l : List ℕ). take a d ++ l) (take-length part) in
+      let b : drop end e ≡ drop end d = ap (λ m. drop m e) (sym z) ∙ c.behind ∙ ap (λ m. drop m d) z in
+      let l : length (take a d) ≡ a = length-take-le a d (omega arith) in
+      record {
+        ends = f;
+        before = sym (take-take a end e (omega arith)) ∙ ap (λ (x : List ℕ). take a x) t ∙ take_at (take a d) part a l;
+        behind =
+            ap (λ (x : List ℕ). drop a x) (sym (take-append-drop end e) ∙ ap₂ {C = List ℕ} ◌++◌ t b ∙ append_assoc (take a d) part (drop end d))
+            ∙ drop_at (take a d) (part ++ drop end d) a l;
+      }
 
 -- ---- Whatever is wanted
 

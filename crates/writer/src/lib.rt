@@ -202,7 +202,10 @@ fn copy(part: &[u32], res: &mut [u32], end: usize) -> usize
     ensures { Wrote res.old res.new result end part.now }
 {
     let to = end - part.len();
-    res[to..end].copy_from_slice(part);
+    // Kept (point 3): `copy_from_slice` becomes C's memmove, and the library asks memset and memcpy alone (include/reedbiscuit.h).
+    for (i, word) in part.iter().enumerate() {
+        res[to + i] = *word;
+    }
     to
 }
 

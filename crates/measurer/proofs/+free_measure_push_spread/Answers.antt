@@ -1,4 +1,3 @@
-use Rattle.links.specs.Standing.{entry_place}
 use Rattle.tables.proofs.Parts.{from_drop}
 use Rattle.measurer.proofs.Walked.{root_room, not_below, few_levels, next_words, free_here, large_here, meets_here, larger_here, met_on, pass_on, end_small}
 use Rattle.trees.specs.Trees.{further}
@@ -7,7 +6,7 @@ use Rattle.measurer.proofs.Answering.{measures_of, measures_large, pushes_of, pu
 use mathlib.Core.Path.{refl, sym, ap, ◌∙◌}
 use native.Mathlib.Omega.{arith}
 use Prim.Native.Nat.{◌+◌, ◌/◌}
-use lib.ListN.{length, get_or, drop}
+use lib.ListN.{length, drop}
 use Rattle.measurer.proofs.Asking.{sequence_of, push_of, spreading_of, free_of, asks_sequence, asks_push, asks_spread, asks_free}
 use Rattle.measurer.proofs.Growing.{growing_from, growing_lambda, pushable}
 use Rattle.measurer.proofs.Spreading.{span_from, place_room, span_end}
