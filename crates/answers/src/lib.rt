@@ -1,22 +1,18 @@
 // The C answers, and 01's numbers in them: a struct for each call, made of the answer of the crate that does the work.
 #![tactic(auto)]
 
-ghost use Rattle.std.specs.Prelude.{◌≡◌, cond};
-ghost use Rattle.answers.specs.Structs.{of_read, of_compile, of_check, of_run, of_list_run, of_watch};
+ghost use Rattle.std.specs.Prelude.{◌≡◌};
+ghost use Rattle.answers.specs.Structs.{of_read, of_words, of_check, of_list_run, of_watch};
 
-use checker::Checked;
-use compiler::Compiled;
+use documents::Refusal;
 use list_run::Ended;
-use reader::Answer;
-use runner::Ran;
-use watcher::Watched;
 
 // 01's number where nothing is refused.
 pub const DONE: u32 = 0;
 
 // The C header calls it reed_read_answer.
 #[repr(C)]
-#[derive(Drop)]
+#[derive(Clone, Copy)]
 pub struct ReedReadAnswer {
     pub number: u32,
     pub left: u32,
@@ -26,7 +22,7 @@ pub struct ReedReadAnswer {
 
 // The C header calls it reed_answer: of the calls that write one table.
 #[repr(C)]
-#[derive(Drop)]
+#[derive(Clone, Copy)]
 pub struct ReedAnswer {
     pub number: u32,
     pub words: u32,
@@ -34,7 +30,7 @@ pub struct ReedAnswer {
 
 // The C header calls it reed_list_answer.
 #[repr(C)]
-#[derive(Drop)]
+#[derive(Clone, Copy)]
 pub struct ReedListAnswer {
     pub number: u32,
     pub words: u32,
@@ -44,7 +40,7 @@ pub struct ReedListAnswer {
 
 // The C header calls it reed_watch_answer.
 #[repr(C)]
-#[derive(Drop)]
+#[derive(Clone, Copy)]
 pub struct ReedWatchAnswer {
     pub number: u32,
     pub current: u32,
@@ -53,110 +49,95 @@ pub struct ReedWatchAnswer {
     pub node: u32,
 }
 
-pub fn of_read(answer: Answer) -> ReedReadAnswer
-    ensures { result ≡ of_read answer }
-{
-    match answer {
-        Answer::Words(left, right, subject) => ReedReadAnswer {
-            number: DONE,
-            left,
-            right,
-            subject,
-        },
-        Answer::Refused(why_not_read) => ReedReadAnswer {
-            number: documents::number(why_not_read),
-            left: 0,
-            right: 0,
-            subject: 0,
-        },
+impl From<Result<reader::Counts, Refusal>> for ReedReadAnswer {
+    ghost from_gives = { λ answer given. given ≡ of_read answer };
+
+    fn from(answer: Result<reader::Counts, Refusal>) -> Self {
+        match answer {
+            Ok(counts) => ReedReadAnswer {
+                number: DONE,
+                left: counts.left,
+                right: counts.right,
+                subject: counts.subject,
+            },
+            Err(why_not_read) => ReedReadAnswer {
+                number: u32::from(why_not_read),
+                left: 0,
+                right: 0,
+                subject: 0,
+            },
+        }
     }
 }
 
-pub fn of_compile(answer: Compiled) -> ReedAnswer
-    ensures { result ≡ of_compile answer }
-{
-    match answer {
-        Compiled::Words(written) => ReedAnswer {
-            number: DONE,
-            words: written,
-        },
-        Compiled::Refused(why_not_compiled) => ReedAnswer {
-            number: documents::number(why_not_compiled),
-            words: 0,
-        },
+// Of compile and of run: the words that they wrote.
+impl From<Result<u32, Refusal>> for ReedAnswer {
+    ghost from_gives = { λ answer given. given ≡ of_words answer };
+
+    fn from(answer: Result<u32, Refusal>) -> Self {
+        match answer {
+            Ok(written) => ReedAnswer {
+                number: DONE,
+                words: written,
+            },
+            Err(why) => ReedAnswer {
+                number: u32::from(why),
+                words: 0,
+            },
+        }
     }
 }
 
-pub fn of_check(answer: Checked) -> u32
+// A function, for neither a `Result` nor a number is a type of ours that could have a `From`.
+pub fn of_check(answer: Result<(), Refusal>) -> u32
     ensures { result ≡ of_check answer }
 {
-    let Checked::Refused(why_not_passed) = answer else {
+    let Err(why_not_passed) = answer else {
         return DONE;
     };
-    documents::number(why_not_passed)
+    u32::from(why_not_passed)
 }
 
-pub fn of_run(answer: Ran) -> ReedAnswer
-    ensures { result ≡ of_run answer }
-{
-    match answer {
-        Ran::Words(made) => ReedAnswer {
-            number: DONE,
-            words: made,
-        },
-        Ran::Refused(why_not_run) => ReedAnswer {
-            number: documents::number(why_not_run),
-            words: 0,
-        },
+impl From<Result<Ended, Refusal>> for ReedListAnswer {
+    ghost from_gives = { λ answer given. given ≡ of_list_run answer };
+
+    fn from(answer: Result<Ended, Refusal>) -> Self {
+        match answer {
+            Ok(ended) => ReedListAnswer {
+                number: DONE,
+                words: ended.words,
+                rewrites: ended.rewrites,
+                normal: u32::from(ended.normal),
+            },
+            Err(why_no_plan) => ReedListAnswer {
+                number: u32::from(why_no_plan),
+                words: 0,
+                rewrites: 0,
+                normal: 0,
+            },
+        }
     }
 }
 
-pub fn of_list_run(answer: Ended) -> ReedListAnswer
-    ensures { result ≡ of_list_run answer }
-{
-    match answer {
-        Ended::Plan(words, rewrites, normal) => ReedListAnswer {
-            number: DONE,
-            words,
-            rewrites,
-            normal: yes(normal),
-        },
-        Ended::Refused(why_no_plan) => ReedListAnswer {
-            number: documents::number(why_no_plan),
-            words: 0,
-            rewrites: 0,
-            normal: 0,
-        },
-    }
-}
+impl From<Result<watcher::Counts, Refusal>> for ReedWatchAnswer {
+    ghost from_gives = { λ answer given. given ≡ of_watch answer };
 
-// 1 for yes, 0 for no.
-fn yes(answer: bool) -> u32
-    ensures { result ≡ cond answer 1 0 }
-{
-    if answer {
-        return 1;
-    }
-    0
-}
-
-pub fn of_watch(answer: Watched) -> ReedWatchAnswer
-    ensures { result ≡ of_watch answer }
-{
-    match answer {
-        Watched::Counts(current, entries, finished, node) => ReedWatchAnswer {
-            number: DONE,
-            current,
-            entries,
-            finished,
-            node,
-        },
-        Watched::Refused(why_not_watched) => ReedWatchAnswer {
-            number: documents::number(why_not_watched),
-            current: 0,
-            entries: 0,
-            finished: 0,
-            node: 0,
-        },
+    fn from(answer: Result<watcher::Counts, Refusal>) -> Self {
+        match answer {
+            Ok(counts) => ReedWatchAnswer {
+                number: DONE,
+                current: counts.current,
+                entries: counts.entries,
+                finished: counts.finished,
+                node: counts.node,
+            },
+            Err(why_not_watched) => ReedWatchAnswer {
+                number: u32::from(why_not_watched),
+                current: 0,
+                entries: 0,
+                finished: 0,
+                node: 0,
+            },
+        }
     }
 }

@@ -4,10 +4,7 @@
 
 ghost use Rattle.reedbiscuit.specs.Answers.{Reads, Compiles, Checks, Runs, ListRuns, Watches};
 
-use answers::{
-    ReedAnswer, ReedListAnswer, ReedReadAnswer, ReedWatchAnswer, of_check, of_compile, of_list_run,
-    of_read, of_run, of_watch,
-};
+use answers::{ReedAnswer, ReedListAnswer, ReedReadAnswer, ReedWatchAnswer, of_check};
 
 // Document 01's reader: the words of a file's three tables at the front of the lent ones.
 pub fn reed_read(
@@ -18,14 +15,14 @@ pub fn reed_read(
 ) -> ReedReadAnswer
     ensures { Reads file.now left.old right.old subject.old result left.new right.new subject.new }
 {
-    of_read(reader::read(file, left, right, subject))
+    ReedReadAnswer::from(reader::read(file, left, right, subject))
 }
 
 // Document 01's compile: a rule's code at the front of the lent code table.
 pub fn reed_compile(left: &[u32], right: &[u32], code: &mut [u32]) -> ReedAnswer
     ensures { Compiles left.now right.now code.old result code.new }
 {
-    of_compile(compiler::compile(left, right, code))
+    ReedAnswer::from(compiler::compile(left, right, code))
 }
 
 // Document 01's check: whether code passes, whoever compiled it.
@@ -39,7 +36,7 @@ pub fn reed_check(code: &[u32]) -> u32
 pub fn reed_run(code: &[u32], subject: &[u32], working: &mut [u32], res: &mut [u32]) -> ReedAnswer
     ensures { Runs code.now subject.now working.old res.old result working.new res.new }
 {
-    of_run(runner::run(code, subject, working, res))
+    ReedAnswer::from(runner::run(code, subject, working, res))
 }
 
 // Document 02's list run, request 1: a list of rules applied to a whole plan until none matches, or so many times; the last plan at the front of the
@@ -53,12 +50,12 @@ pub fn reed_list_run(
 ) -> ReedListAnswer
     ensures { ListRuns rules.now subject.now rewrites working.old res.old result working.new res.new }
 {
-    of_list_run(list_run::list_run(rules, subject, rewrites, working, res))
+    ReedListAnswer::from(list_run::list_run(rules, subject, rewrites, working, res))
 }
 
 // Document 01's watch: the machine's counts after the first i outermost instructions.
 pub fn reed_watch(code: &[u32], subject: &[u32], i: u32) -> ReedWatchAnswer
     ensures { Watches code.now subject.now i result }
 {
-    of_watch(watcher::watch(code, subject, i))
+    ReedWatchAnswer::from(watcher::watch(code, subject, i))
 }

@@ -1,5 +1,5 @@
 -- `reedbiscuit::reed_check` gives 01's number of the checker's answer.
-use mathlib.Core.Path.{◌∙◌}
+use Rattle.std.proofs.Common.{◌∙◌}
 use Rattle.reedbiscuit.proofs.Given.{check_given}
 use Rattle.reedbiscuit.proofs.reed_check.Goals as goal
 

@@ -3,4 +3,4 @@ use Rattle.reedbiscuit.proofs.Given.{watch_given_lem}
 use Rattle.reedbiscuit.proofs.reed_watch.Goals as goal
 
 pub returns : goal.returns
-returns c = rw (c.of_watch.ensures, c.watch.ensures) (watch_given_lem _ _ _)
+returns c = rw (c.from.ensures, c.watch.ensures) (watch_given_lem _ _ _)
