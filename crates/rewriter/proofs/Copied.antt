@@ -1,11 +1,30 @@
 -- Words that are copied into a table: those that were copied, and before them what stood there. So the redex is set aside, and what was behind it moved.
 use mathlib.Core.Path.{◌≡◌, refl, sym, ap, ◌∙◌}
-use Prim.Native.Nat.{ℕ, zero, suc, ◌+◌, ◌-◌, ◌≤◌}
+use Prim.Native.Nat.{ℕ, zero, suc, ◌+◌, ◌-◌, ◌≤◌, ◌<◌}
+use native.Mathlib.Numerals.{add-one}
 use native.Mathlib.Omega.{arith}
 use mathlib.Core.List.{List, [], ◌∷◌, ◌++◌, append_assoc}
-use lib.ListN.{length, take, drop, length-append, length-take, length-drop}
-use lib.Seq.{length-take-le, take-take, take-append-le, take-nil, drop-drop, drop_at, drop-append-le}
+use lib.ListN.{length, take, drop, get_or, set, length-append, length-take, length-drop}
+use lib.Seq.{length-take-le, take-suc, take-length, take-take, take-append-le, take-nil, drop-cons, drop-drop, drop_at, drop-append-le, append_snoc, set_at}
 use Rattle.rewriter.specs.Replaces.{SettingAside, SetAside}
+
+-- ---- One word after the other
+
+-- a turn copies one word more
+pub copied_more : (part table : List ℕ) {table' : List ℕ} (i : ℕ) → length part ≤ length table → i < length part → table' ≡ take i part ++ drop i table
+    → set table' i (get_or part i 0) ≡ take (i + 1) part ++ drop (i + 1) table
+copied_more part table i k h e =
+    let j : i < length table = omega arith in
+    rw (e, add-one, drop-cons table i 0)
+    (set_at (take i part) (get_or table i 0) (drop (suc i) table) (get_or part i 0) i (length-take-le i part (omega arith))
+    ∙ sym (append_snoc (take i part) (get_or part i 0) (drop (suc i) table))
+    ∙ ap (λ (l : List ℕ). l ++ drop (suc i) table) (sym (take-suc part i 0 h)))
+
+pub copied_all : (part table : List ℕ) {table' : List ℕ} (i : ℕ) → table' ≡ take i part ++ drop i table → i ≤ length part → length part ≤ i
+    → table' ≡ part ++ drop (length part) table
+copied_all part table i e h k =
+    let q : i ≡ length part = omega arith in
+    e ∙ rw (q, take-length part) refl
 
 -- ---- Parts of parts
 

@@ -167,5 +167,8 @@ pub fn copy(part: &[u32], table: &mut [u32])
     requires { length part.now ≤ length table.old }
     ensures { table.new ≡ part.now ++ drop (length part.now) table.old }
 {
-    table[..part.len()].copy_from_slice(part);
+    // Kept (point 3): `copy_from_slice` becomes C's memmove, and the library asks memset and memcpy alone (include/reedbiscuit.h).
+    for (i, word) in part.iter().enumerate() {
+        table[i] = *word;
+    }
 }
