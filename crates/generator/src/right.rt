@@ -19,7 +19,8 @@ pub struct Built {
 }
 
 // The code of the subterm that a part begins with, under so many abstractions.
-// Kept (point 5): each call has its own part and place, and a body its own `under`; a struct would be built anew at each and hold only `rows`.
+// Kept (point 5): a struct of `code` and `at` would add to each contract that it still holds the same reference, and a body's key and length stand
+// before the body's place; of the others only `rows` is the same in every call.
 #[cycle(right_bodies_right_metavariable_right_side_right_terms)]
 pub fn right_side(part: &[u32], under: u32, rows: &[u32], code: &mut [u32], at: usize) -> Built
     requires { Ready 1 part.now under rows.now × Fits code.old at (right_code rows.now under (front part.now)) }

@@ -2,18 +2,12 @@ use native.Mathlib.Omega.{arith}
 use lib.ListN.{length-drop}
 use Rattle.tables.proofs.Parts.{from_drop}
 use Rattle.tables.proofs.Fronts.{root_words, below_abstraction}
-use Rattle.symbols.proofs.Entering.{words_within, body_enterable, body_full, body_entered, entering_from, narrow_node, entering_plain, term_enterable, first_word, term_full, entering_term, entering_ended}
+use Rattle.symbols.proofs.Entering.{words_within, body_enterable, body_full, body_entered, entering_from, entering_plain, term_enterable, first_word, term_full, entering_term, entering_ended}
 use borrow.Author.Rules.{rules}
 use Rattle.symbols.proofs.+enter_all_enter_term.Goals as goal
 
 pub enter_all-loop-owed-init : goal.enter_all-loop-owed-init
 enter_all-loop-owed-init t c = entering_from c.args.table.now c.requires
-
-pub enter_all-overflow_cast-owed : goal.enter_all-overflow_cast-owed
-enter_all-overflow_cast-owed t c = let k = narrow_node c.loop-owed.invariant c.loop-owed-test.true in search rules
-
-pub enter_all-overflow_add-owed-then-part-read-lt-FIRST_METAVARIABLE : goal.enter_all-overflow_add-owed-then-part-read-lt-FIRST_METAVARIABLE
-enter_all-overflow_add-owed-then-part-read-lt-FIRST_METAVARIABLE t c = let k = narrow_node c.loop-owed.invariant c.loop-owed-test.true in search rules
 
 pub enter_all-loop-owed-preserved-then-part-read-lt-FIRST_METAVARIABLE : goal.enter_all-loop-owed-preserved-then-part-read-lt-FIRST_METAVARIABLE
 enter_all-loop-owed-preserved-then-part-read-lt-FIRST_METAVARIABLE t c = entering_plain c.loop-owed.invariant c.loop-owed-test.true c.if-part-read-lt-FIRST_METAVARIABLE.true
@@ -38,18 +32,6 @@ enter_all-loop-owed-preserved t c = entering_term c.loop-owed.invariant c.loop-o
 
 pub enter_all-returns : goal.enter_all-returns
 enter_all-returns t c = entering_ended c.loop-owed.invariant c.loop-owed-test.false
-
-pub enter_term-bounds-part-0 : goal.enter_term-bounds-part-0
-enter_term-bounds-part-0 t c = let r = root_words c.requires.0.begins in search rules
-
-pub enter_term-slice_bounds-enter_all-count : goal.enter_term-slice_bounds-enter_all-count
-enter_term-slice_bounds-enter_all-count t c = let r = root_words c.requires.0.begins in search rules
-
-pub enter_term-slice_bounds-enter_all-start : goal.enter_term-slice_bounds-enter_all-start
-enter_term-slice_bounds-enter_all-start t c = let r = root_words c.requires.0.begins in search rules
-
-pub enter_term-overflow_add-under : goal.enter_term-overflow_add-under
-enter_term-overflow_add-under t c = let b = (body_enterable c.requires.0 c.if-part-ne-ABSTRACTION.false).low in search rules
 
 pub enter_term-enter_all-requires : goal.enter_term-enter_all-requires
 enter_term-enter_all-requires t c = let g = c.requires.0 in let r = root_words g.begins in (rw (from_drop, length-drop) (omega arith), body_enterable g c.if-part-ne-ABSTRACTION.false)

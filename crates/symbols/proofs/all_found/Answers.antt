@@ -1,8 +1,6 @@
 use mathlib.Core.Path.{sym, ap, ◌∙◌}
 use mathlib.Core.Bool.{not}
-use Prim.Native.Nat.{◌≤◌, ◌<◌}
-use native.Mathlib.Omega.{arith}
-use Rattle.tables.proofs.Nodes.{metavariable_range, metas_first, metas_at, metas_past, owes_none}
+use Rattle.tables.proofs.Nodes.{metas_first, metas_at, metas_past, owes_none}
 use Rattle.symbols.specs.Rows.{rows_in}
 use Rattle.symbols.specs.Entries.{all_found}
 use Rattle.symbols.proofs.Asked.{asked}
@@ -13,9 +11,6 @@ pub loop-node-init : goal.loop-node-init
 loop-node-init c =
     let s = c.args in
     ap (all_found (rows_in s.rows.now)) (metas_first s.part.now c.into_iter-node-iterator.result c.requires (rw c.into_iter-node-iterator.ensures.into_iter_gives c.of-node-items.ensures))
-
-pub overflow_sub-node : goal.overflow_sub-node
-overflow_sub-node c = let w = c.in-Some.node.word in let r : (131072 ≤ w) × (w < 196608) = metavariable_range (sym c.is_metavariable.ensures ∙ c.if-is_metavariable.true) in omega arith
 
 pub returns-then-is_none : goal.returns-then-is_none
 returns-then-is_none c =

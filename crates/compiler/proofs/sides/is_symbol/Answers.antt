@@ -1,15 +1,9 @@
 -- `sides::is_symbol` meets its contract: the root's first word tells its kind.
 use mathlib.Core.Path.{sym, ap, ◌∙◌}
 use borrow.Author.Tests.{lt-leb}
-use native.Mathlib.Omega.{arith}
 use Rattle.documents.specs.Rules.{is_symbol}
 use Rattle.tables.proofs.Fronts.{front_variable, front_is_symbol}
-use Rattle.tables.proofs.Parts.{in_table}
-use borrow.Author.Rules.{rules}
 use Rattle.compiler.proofs.sides.is_symbol.Goals as goal
-
-pub bounds-part-0 : goal.bounds-part-0
-bounds-part-0 c = let w = in_table c.args.part.now 0 c.requires (omega arith) in search rules
 
 pub returns-else-part-ge-FIRST_SYMBOL : goal.returns-else-part-ge-FIRST_SYMBOL
 returns-else-part-ge-FIRST_SYMBOL c = lt-leb 65536 _ c.if-part-ge-FIRST_SYMBOL.false ∙ sym (ap is_symbol (front_variable c.requires c.if-part-ge-FIRST_SYMBOL.false))

@@ -4,7 +4,7 @@ use lib.Dec.{lit<}
 use lib.ListN.{length-drop}
 use Rattle.tables.proofs.Parts.{from_drop}
 use Rattle.tables.proofs.Fronts.{root_words}
-use Rattle.generator.proofs.Matching.{translating_from, translating_ended, plain_fits, plain_on, term_asked, term_on, term_read, is_metavariable, abst_fits, body_low, body_asked, body_done, body_read}
+use Rattle.generator.proofs.Matching.{translating_from, translating_ended, plain_fits, plain_on, term_asked, term_on, term_read, is_metavariable, abst_fits, body_asked, body_done, body_read}
 use borrow.Author.Rules.{rules}
 use Rattle.generator.proofs.left.+left_side_left_term.Goals as goal
 
@@ -16,9 +16,6 @@ left_side-left_plain-place-requires t c = plain_fits c.loop-owed.invariant c.loo
 
 pub left_side-overflow_cast-owed : goal.left_side-overflow_cast-owed
 left_side-overflow_cast-owed t c = omega (arith, c.shared_slice_known-then-word-lt-FIRST_METAVARIABLE-1.given (c.loop-owed.read + 1))
-
-pub left_side-overflow_add-owed : goal.left_side-overflow_add-owed
-left_side-overflow_add-owed t c = let o = (plain_on c.loop-owed.invariant c.loop-owed-test.true c.if-word-lt-FIRST_METAVARIABLE.true c.left_plain-place.ensures).walking.walk.within in omega arith
 
 pub left_side-loop-owed-preserved-then-word-lt-FIRST_METAVARIABLE : goal.left_side-loop-owed-preserved-then-word-lt-FIRST_METAVARIABLE
 left_side-loop-owed-preserved-then-word-lt-FIRST_METAVARIABLE t c = plain_on c.loop-owed.invariant c.loop-owed-test.true c.if-word-lt-FIRST_METAVARIABLE.true c.left_plain-place.ensures
@@ -38,23 +35,11 @@ left_side-loop-owed-preserved t c = term_on c.loop-owed.invariant c.loop-owed-te
 pub left_side-returns : goal.left_side-returns
 left_side-returns t c = translating_ended c.loop-owed.invariant c.loop-owed-test.false
 
-pub left_term-bounds-part-0 : goal.left_term-bounds-part-0
-left_term-bounds-part-0 t c = let w = root_words c.requires.0.begins in search rules
-
 pub left_term-left_metavariable-requires : goal.left_term-left_metavariable-requires
 left_term-left_metavariable-requires t c = (c.requires.0, is_metavariable c.requires.0.begins c.requires.1 c.if-part-ne-ABSTRACTION.true)
 
 pub left_term-put-inside-requires : goal.left_term-put-inside-requires
 left_term-put-inside-requires t c = (lit< tt, abst_fits c.requires.0 c.if-part-ne-ABSTRACTION.false)
-
-pub left_term-slice_bounds-left_side-count : goal.left_term-slice_bounds-left_side-count
-left_term-slice_bounds-left_side-count t c = let w = root_words c.requires.0.begins in search rules
-
-pub left_term-slice_bounds-left_side-start : goal.left_term-slice_bounds-left_side-start
-left_term-slice_bounds-left_side-start t c = let w = root_words c.requires.0.begins in search rules
-
-pub left_term-overflow_add-under : goal.left_term-overflow_add-under
-left_term-overflow_add-under t c = let w = body_low c.requires.0 c.if-part-ne-ABSTRACTION.false in search rules
 
 pub left_term-left_side-body-requires : goal.left_term-left_side-body-requires
 left_term-left_side-body-requires t c = let s = c.args in let w = root_words c.requires.0.begins in let d = length-drop 2 s.part.now in rw (from_drop 2 s.part.now) (omega arith, body_asked c.requires.0 c.if-part-ne-ABSTRACTION.false c.put-inside.ensures)

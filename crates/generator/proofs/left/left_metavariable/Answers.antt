@@ -8,33 +8,12 @@ use Rattle.generator.specs.Matching.{First, first_code}
 use mathlib.Core.Path.{sym, ◌∙◌}
 use Prim.Native.Nat.{◌*◌}
 use Rattle.tables.proofs.Parts.{from_drop}
-use Rattle.generator.proofs.Matching.{here, its_row, left_none, left_first_fits, left_first, left_later_fits, left_later}
+use Rattle.generator.proofs.Matching.{its_row, left_none, left_first_fits, left_first, left_later_fits, left_later}
 use borrow.Author.Rules.{rules}
 use Rattle.generator.proofs.left.left_metavariable.Goals as goal
 
-pub bounds-part-1 : goal.bounds-part-1
-bounds-part-1 c = let h = here c.requires.0 c.requires.1 in search rules
-
-pub overflow_cast-read : goal.overflow_cast-read
-overflow_cast-read c = let h = here c.requires.0 c.requires.1 in search rules
-
-pub overflow_mul-read : goal.overflow_mul-read
-overflow_mul-read c = let h = here c.requires.0 c.requires.1 in search rules
-
-pub overflow_add-read : goal.overflow_add-read
-overflow_add-read c = let h = here c.requires.0 c.requires.1 in search rules
-
-pub bounds-part-0 : goal.bounds-part-0
-bounds-part-0 c = let h = here c.requires.0 c.requires.1 in search rules
-
 pub returns-in_default : goal.returns-in_default
 returns-in_default c = left_none c.requires.0 c.requires.1 (sym c.in_default.is ∙ c.find.ensures)
-
-pub slice_bounds-first_occurrence-count : goal.slice_bounds-first_occurrence-count
-slice_bounds-first_occurrence-count c = let h = here c.requires.0 c.requires.1 in search rules
-
-pub slice_bounds-first_occurrence-start : goal.slice_bounds-first_occurrence-start
-slice_bounds-first_occurrence-start c = let h = here c.requires.0 c.requires.1 in search rules
 
 pub first_occurrence-next-requires : goal.first_occurrence-next-requires
 first_occurrence-next-requires c = subst (λ (p : List ℕ). First p (get_or c.args.part.now 1 0) c.args.under × Fits c.args.code.now c.args.at (first_code p (get_or c.args.part.now 1 0) c.args.under)) (sym (from_drop 2 c.args.part.now)) (left_first_fits c.requires.0 c.requires.1 (sym c.in-Some.is ∙ c.find.ensures) c.if-location-sets.true)
@@ -56,12 +35,6 @@ slice_bounds-row-start c = let p = (its_row c.requires.0 c.requires.1 (sym c.in-
 
 pub overflow_cast-entry : goal.overflow_cast-entry
 overflow_cast-entry c = let p = (its_row c.requires.0 c.requires.1 (sym c.in-Some.is ∙ c.find.ensures)).within in search rules
-
-pub slice_bounds-later_occurrence-count : goal.slice_bounds-later_occurrence-count
-slice_bounds-later_occurrence-count c = let h = here c.requires.0 c.requires.1 in search rules
-
-pub slice_bounds-later_occurrence-start : goal.slice_bounds-later_occurrence-start
-slice_bounds-later_occurrence-start c = let h = here c.requires.0 c.requires.1 in search rules
 
 pub later_occurrence-next-requires : goal.later_occurrence-next-requires
 later_occurrence-next-requires c = let s = c.args in rw (from_drop 2 s.part.now, from_drop (11 * c.in-Some.location) s.rows.now) (left_later_fits c.requires.0 c.requires.1 (sym c.in-Some.is ∙ c.find.ensures) c.if-location-sets.false)

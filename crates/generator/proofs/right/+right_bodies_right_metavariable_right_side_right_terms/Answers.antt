@@ -6,7 +6,6 @@ use lib.ListN.{length, take, drop, get_or, length-take, length-drop}
 use Rattle.std.proofs.lemmas.List.{get_or-take}
 use lib.Seq.{get_or-drop}
 use native.Mathlib.Omega.{arith}
-use Rattle.tables.proofs.Fronts.{root_words}
 use Rattle.generator.proofs.Matching.{is_metavariable}
 use Rattle.generator.proofs.Building.{falls_along, falls_inside, ready_arguments, ready_body, arguments_within, body_within, fits_variable, builds_variable, fits_arguments, writing_cell, builds_symbol, fits_lambda, fits_inside, writing_adbmal, builds_abstraction, builds_absent, row_of, keys_within, fits_pushi, writing_bodies, builds_metavariable, ready_first, first_within, joining_from, fits_first_term, joining_on, joining_ended, keying_from, fits_body, body_length, fits_key, keying_on, keying_ended}
 use borrow.Author.Rules.{rules}
@@ -71,12 +70,6 @@ right_bodies-returns t c =
     let k = c.requires.1 in
     keying_ended c.loop-key.invariant (omega (arith, length-take (s.keys + s.count - s.keys) (drop s.keys s.rows.now), length-drop s.keys s.rows.now))
 
-pub right_metavariable-bounds-part-1 : goal.right_metavariable-bounds-part-1
-right_metavariable-bounds-part-1 t c = let r = root_words c.requires.0.begins in search rules
-
-pub right_metavariable-bounds-part-0 : goal.right_metavariable-bounds-part-0
-right_metavariable-bounds-part-0 t c = let r = root_words c.requires.0.begins in search rules
-
 pub right_metavariable-returns-in_default : goal.right_metavariable-returns-in_default
 right_metavariable-returns-in_default t c = let p = c.requires in builds_absent p.0 p.1 (sym c.in_default.is ∙ c.find.ensures) c.skip.ensures
 
@@ -104,12 +97,6 @@ right_metavariable-overflow_sub-shift t c = let p = c.requires in let w = (row_o
 pub right_metavariable-put-first-requires : goal.right_metavariable-put-first-requires
 right_metavariable-put-first-requires t c = let p = c.requires in (lit< tt, fits_pushi p.0 p.1 (sym c.in-Some.is ∙ c.find.ensures) p.2)
 
-pub right_metavariable-slice_bounds-right_bodies-count : goal.right_metavariable-slice_bounds-right_bodies-count
-right_metavariable-slice_bounds-right_bodies-count t c = let r = root_words c.requires.0.begins in search rules
-
-pub right_metavariable-slice_bounds-right_bodies-start : goal.right_metavariable-slice_bounds-right_bodies-start
-right_metavariable-slice_bounds-right_bodies-start t c = let r = root_words c.requires.0.begins in search rules
-
 pub right_metavariable-right_bodies-bodies-requires : goal.right_metavariable-right_bodies-bodies-requires
 right_metavariable-right_bodies-bodies-requires t c = let p = c.requires in let e = sym c.in-Some.is ∙ c.find.ensures in (falls_inside p.0 2 0 (omega arith) c.decreases, (ready_arguments p.0, keys_within p.0 p.1 e, (writing_bodies p.0 p.1 e p.2 c.put-first.ensures).fits))
 
@@ -119,23 +106,11 @@ right_metavariable-overflow_add-result t c = let r = arguments_within c.requires
 pub right_metavariable-returns : goal.right_metavariable-returns
 right_metavariable-returns t c = let p = c.requires in builds_metavariable p.0 p.1 (sym c.in-Some.is ∙ c.find.ensures) p.2 c.put-first.ensures c.right_bodies-bodies.ensures
 
-pub right_side-bounds-part-0 : goal.right_side-bounds-part-0
-right_side-bounds-part-0 t c = let r = root_words c.requires.0.begins in search rules
-
-pub right_side-bounds-part-1 : goal.right_side-bounds-part-1
-right_side-bounds-part-1 t c = let r = root_words c.requires.0.begins in search rules
-
 pub right_side-put-requires : goal.right_side-put-requires
 right_side-put-requires t c = (lit< tt, fits_variable c.requires.0 c.if-word-lt-FIRST_SYMBOL.true c.requires.1)
 
 pub right_side-returns-then-word-lt-FIRST_SYMBOL : goal.right_side-returns-then-word-lt-FIRST_SYMBOL
 right_side-returns-then-word-lt-FIRST_SYMBOL t c = builds_variable c.requires.0 c.if-word-lt-FIRST_SYMBOL.true c.put.ensures
-
-pub right_side-slice_bounds-right_terms-count : goal.right_side-slice_bounds-right_terms-count
-right_side-slice_bounds-right_terms-count t c = let r = root_words c.requires.0.begins in search rules
-
-pub right_side-slice_bounds-right_terms-start : goal.right_side-slice_bounds-right_terms-start
-right_side-slice_bounds-right_terms-start t c = let r = root_words c.requires.0.begins in search rules
 
 pub right_side-right_terms-arguments-requires : goal.right_side-right_terms-arguments-requires
 right_side-right_terms-arguments-requires t c = let p = c.requires in (falls_inside p.0 2 1 (omega arith) c.decreases, (ready_arguments p.0, fits_arguments p.0 c.if-word-lt-FIRST_SYMBOL.false c.if-word-lt-FIRST_METAVARIABLE.true p.1))
@@ -151,12 +126,6 @@ right_side-returns-then-word-lt-FIRST_METAVARIABLE t c = let p = c.requires in b
 
 pub right_side-put-inside-requires : goal.right_side-put-inside-requires
 right_side-put-inside-requires t c = let p = c.requires in (lit< tt, fits_lambda p.0 c.if-word-eq-ABSTRACTION.true p.1)
-
-pub right_side-slice_bounds-right_side-count : goal.right_side-slice_bounds-right_side-count
-right_side-slice_bounds-right_side-count t c = let r = root_words c.requires.0.begins in search rules
-
-pub right_side-slice_bounds-right_side-start : goal.right_side-slice_bounds-right_side-start
-right_side-slice_bounds-right_side-start t c = let r = root_words c.requires.0.begins in search rules
 
 pub right_side-right_side-body-requires : goal.right_side-right_side-body-requires
 right_side-right_side-body-requires t c = let p = c.requires in (falls_inside p.0 1 1 (omega arith) c.decreases, (ready_body p.0 c.if-word-eq-ABSTRACTION.true, fits_inside p.0 c.if-word-eq-ABSTRACTION.true p.1 c.put-inside.ensures))
