@@ -16,9 +16,14 @@ use Rattle.documents.specs.Rules.{fv, freevars, closed}
 use Rattle.documents.proofs.Lists.{on, T_of, of_and, every_append}
 use Rattle.tables.specs.Parts.{terms, front, Begins, word_count}
 use Rattle.std.specs.Prelude.{Some, None}
+use denote.Ref.{Bor}
+use Rattle.tables.specs.declared.walk.Node.{Node}
+use Rattle.tables.specs.declared.walk.Nodes.{Nodes}
+use Rattle.tables.specs.Nodes.{starts, owes, goes_past, node_gives}
+use Rattle.tables.proofs.Nodes.{owes_first}
 use Rattle.tables.specs.Forbidden.{clear, looked, Small, unmarked, marked, mark_all, marked_with}
-use Rattle.tables.proofs.Parts.{join, Step, step, front_term, from, from_drop}
-use Rattle.tables.proofs.Walks.{at_variable, at_abstraction, Walk, walk_body, ended, Walking, walking_from, walking_on, walking_variable, walking_abstraction, walking_ended, walked_words, walked_stopped, is_words, is_stopped}
+use Rattle.tables.proofs.Parts.{join, Step, step, front_term}
+use Rattle.tables.proofs.Walks.{at_variable, at_abstraction, Walk, ended, Walking, walking_from, walking_on, walking_abstraction, walking_ended, walked_words, walked_stopped, is_words, is_stopped}
 
 -- ---- A walk of the variables
 
@@ -88,41 +93,93 @@ module _ {t : List ℕ} {a n : ℕ} (w : Walk t a n) (h : 0 < n) (marks : List �
 -- ---- A walk that looks through the subterm that a part begins with
 
 -- Whether a marked variable is among the terms still owed is what was asked of the subterm.
-pub record Looking (marks : List ℕ) (j : ℕ) (part : List ℕ) (owed at : ℕ) : Type 0 where
-  pub walk : Walking part owed at
-  pub same : every (unmarked marks) (fv j (terms owed (drop at part))) ≡ every (unmarked marks) (fv j (front part))
+pub record Looking (marks : List ℕ) (j : ℕ) (part : List ℕ) (s : Nodes) : Type 0 where
+  pub whole : s.part.now ≡ part
+  pub walk : Walking s.part.now s.owed s.at
+  pub same : every (unmarked marks) (fv j (owes s)) ≡ every (unmarked marks) (fv j (front part))
 
-pub looking_from : {marks : List ℕ} {j : ℕ} {part : List ℕ} → Begins 1 part → Looking marks j part 1 0
-looking_from {marks} {j} b = record { walk = walking_from b; same = look_front (unmarked marks) j b }
+pub looking_from : {marks : List ℕ} {j : ℕ} {part : List ℕ} (s : Nodes) → Begins 1 part → starts part s → Looking marks j part s
+looking_from {marks} {j} {part} s b h = record {
+  whole = h.0;
+  walk = rw (h.0, h.1, h.2) (walking_from b);
+  same = rw (owes_first part s h) (look_front (unmarked marks) j b);
+}
 
-pub looking_ended : {marks : List ℕ} {j : ℕ} {part : List ℕ} {owed at : ℕ} → Looking marks j part owed at → owed ≤ 0 → Some at ≡ looked marks j (front part)
-looking_ended {part = part} {at = at} l h = is_words _ (front part) at (sym (rw (ended l.walk.walk h) at l.same)) (walking_ended l.walk h)
+pub looking_ended : {marks : List ℕ} {j : ℕ} {part : List ℕ} (s t : Nodes) → Looking marks j part s → node_gives s None t → Some t.at ≡ looked marks j (front part)
+looking_ended s t l g =
+    let e : s.owed ≤ 0 = omega arith in
+    is_words _ (front _) t.at (sym (rw (ended l.walk.walk e) at l.same)) (ap (λ (z : Nodes). z.at) g.1.1 ∙ rw l.whole at (walking_ended l.walk e))
 
-module _ {marks : List ℕ} {j : ℕ} {part : List ℕ} {owed at : ℕ} (l : Looking marks j part owed at) (h : 0 < owed) where
-  pub looking_variable : get_or part at 0 < 65536 → marked marks j (get_or part at 0) ≡ false → Looking marks j part (owed - 1) (at + 2)
-  looking_variable v e = record { walk = walking_variable l.walk h v; same = sym (look_unmarked l.walk.walk h marks j v e) ∙ l.same }
+-- a step that gave a node
+module _ {marks : List ℕ} {j : ℕ} {part : List ℕ} (s t : Nodes) (n : Node) (l : Looking marks j part s) (g : node_gives s (Some n) t) where
+  behind_is : owes t ≡ terms (s.owed - 1 + get_or s.part.now (s.at + 1) 0) (drop (s.at + 2) s.part.now)
+  behind_is = rw (g.0, g.1.4, g.1.5, g.1.2) refl
 
-  pub variable_marked : get_or part at 0 < 65536 → marked marks j (get_or part at 0) ≡ true → None ≡ looked marks j (front part)
-  variable_marked v e = is_stopped _ (front part) (sym l.same ∙ look_marked l.walk.walk h marks j v e)
+  walked_on : Walking t.part.now t.owed t.at
+  walked_on = rw (g.0, g.1.4, g.1.5, g.1.2) (walking_on l.walk g.1.0)
 
-  pub looking_applied : 65536 ≤ get_or part at 0 → ((get_or part at 0 ≡ 196608) → ⊥) → Looking marks j part (owed - 1 + get_or part (at + 1) 0) (at + 2)
-  looking_applied v n = record { walk = walking_on l.walk h; same = sym (look_applied l.walk.walk h marks j v n) ∙ l.same }
+  pub variable_marked : n.word < 65536 → marked marks j n.word ≡ true → None ≡ looked marks j (front part)
+  variable_marked v e = is_stopped _ (front part) (sym l.same ∙ look_marked l.walk.walk g.1.0 marks j (rw g.1.1 at v) (rw g.1.1 at e))
+
+  pub looking_variable : n.word < 65536 → marked marks j n.word ≡ false → Looking marks j part t
+  looking_variable v e =
+      let a = at_variable s.part.now s.at s.owed l.walk.walk.begins g.1.0 (rw g.1.1 at v) in
+      let z : s.owed - 1 + get_or s.part.now (s.at + 1) 0 ≡ s.owed - 1 = let f = a.leaf in omega arith in
+      record {
+        whole = ap (λ (p : Bor (List ℕ)). p.now) g.0 ∙ l.whole;
+        walk = walked_on;
+        same = rw (behind_is, z) (sym (look_unmarked l.walk.walk g.1.0 marks j (rw g.1.1 at v) (rw g.1.1 at e))) ∙ l.same;
+      }
+
+  pub looking_applied : 65536 ≤ n.word → (n.word ≡ 196608 → ⊥) → Looking marks j part t
+  looking_applied v o = record {
+    whole = ap (λ (p : Bor (List ℕ)). p.now) g.0 ∙ l.whole;
+    walk = walked_on;
+    same = rw behind_is (sym (look_applied l.walk.walk g.1.0 marks j (rw g.1.1 at v) (rw g.1.1 at o))) ∙ l.same;
+  }
 
   -- the body of an abstraction is a part of its own
-  pub body : get_or part at 0 ≡ 196608 → Begins 1 (from (at + 2) part)
-  body v = walk_body l.walk.walk h v
+  module _ (v : n.word ≡ 196608) where
+    here : get_or s.part.now s.at 0 ≡ 196608
+    here = sym g.1.1 ∙ v
 
-  pub looking_body : (n : ℕ) → get_or part at 0 ≡ 196608 → Some n ≡ looked marks (j + 1) (front (from (at + 2) part)) → Looking marks j part (owed - 1) (at + (2 + n))
-  looking_body n v e =
-      let inner = front (drop (at + 2) part) in
-      let d = walked_words (every (unmarked marks) (fv (j + 1) inner)) inner n (rw (from_drop (at + 2) part) at e) in
-      let k : at + (2 + n) ≡ at + 2 + word_count inner = let q = d.1 in omega arith in
-      rw k (record { walk = walking_abstraction l.walk h v; same = sym (look_past l.walk.walk h marks j v d.0) ∙ l.same })
+    pub body : Begins 1 n.behind.now
+    body = rw g.1.3 (at_abstraction s.part.now s.at s.owed l.walk.walk.begins g.1.0 here).body
 
-  pub body_marked : get_or part at 0 ≡ 196608 → None ≡ looked marks (j + 1) (front (from (at + 2) part)) → None ≡ looked marks j (front part)
-  body_marked v e =
-      is_stopped _ (front part)
-      (sym l.same ∙ look_inside l.walk.walk h marks j v (walked_stopped _ (front (drop (at + 2) part)) (rw (from_drop (at + 2) part) at e)))
+    pub body_marked : None ≡ looked marks (j + 1) (front n.behind.now) → None ≡ looked marks j (front part)
+    body_marked e =
+        is_stopped _ (front part)
+        (sym l.same ∙ look_inside l.walk.walk g.1.0 marks j here (walked_stopped _ (front (drop (s.at + 2) s.part.now)) (rw g.1.3 at e)))
+
+    module _ (m : ℕ) (e : Some m ≡ looked marks (j + 1) (front n.behind.now)) where
+      inner : (every (unmarked marks) (fv (j + 1) (front (drop (s.at + 2) s.part.now))) ≡ true) × (m ≡ word_count (front (drop (s.at + 2) s.part.now)))
+      inner = walked_words _ (front (drop (s.at + 2) s.part.now)) m (rw g.1.3 at e)
+
+      behind : Walking s.part.now (s.owed - 1) (s.at + 2 + m)
+      behind = rw inner.1 (walking_abstraction l.walk g.1.0 here)
+
+      pub body_passes : (0 < t.owed) × (t.at + m ≤ length t.part.now)
+      body_passes =
+          let a = at_abstraction s.part.now s.at s.owed l.walk.walk.begins g.1.0 here in
+          let w = behind.walk.within in
+          let p : length t.part.now ≡ length s.part.now = ap (λ (p : Bor (List ℕ)). length p.now) g.0 in
+          let c = a.one in
+          let q = g.1.2 in
+          let r = g.1.5 in
+          let x = g.1.4 in
+          (omega arith, omega arith)
+
+      pub looking_body : (u : Nodes) → goes_past t m u → Looking marks j part u
+      looking_body u f =
+          let a = at_abstraction s.part.now s.at s.owed l.walk.walk.begins g.1.0 here in
+          let c = a.one in
+          let o : u.owed ≡ s.owed - 1 = let q = g.1.2 in let r = g.1.5 in let x = f.2 in omega arith in
+          let i : u.at ≡ s.at + 2 + m = let x = g.1.4 in let y = f.1 in omega arith in
+          record {
+            whole = ap (λ (p : Bor (List ℕ)). p.now) (f.0 ∙ g.0) ∙ l.whole;
+            walk = rw (f.0, g.0, o, i) behind;
+            same = rw (f.0, g.0, o, i, inner.1) (sym (look_past l.walk.walk g.1.0 marks j here inner.0)) ∙ l.same;
+          }
 
 -- ---- Marks
 

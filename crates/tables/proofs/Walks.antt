@@ -22,6 +22,7 @@ use Rattle.tables.proofs.Parts.{join, only, headed, Shape, Step, step, begins_in
 pub record AtVariable (t : List ℕ) (a n : ℕ) : Type 0 where
   pub terms_are : terms n (drop a t) ≡ Cons (Var (get_or t a 0)) (terms (n - 1) (drop (a + 2) t))
   pub begins : Begins (n - 1) (drop (a + 2) t)
+  pub leaf : get_or t (a + 1) 0 ≡ 0
 
 variable_step : {k s c w : ℕ} {ts us : Terms} → Step k s c ts us → w / 65536 ≡ k → w % 65536 ≡ s → w < 65536 → (ts ≡ Cons (Var w) us) × (c ≡ 0)
 variable_step {k = zero} {s} {c} {w} {ts} {us} p e f h =
@@ -34,13 +35,14 @@ pub at_variable : (t : List ℕ) (a n : ℕ) → Begins n (drop a t) → 0 < n �
 at_variable t a n b h v =
     let p = variable_step (step t a n b h) refl refl v in
     let e : n - 1 + get_or t (a + 1) 0 ≡ n - 1 = rw p.1 (omega arith) in
-    record { terms_are = rw e at p.0; begins = rw e at (begins_inside t a n b h) }
+    record { terms_are = rw e at p.0; begins = rw e at (begins_inside t a n b h); leaf = p.1 }
 
 -- ---- An abstraction
 
 pub record AtAbstraction (t : List ℕ) (a n : ℕ) : Type 0 where
   pub terms_are : terms n (drop a t) ≡ Cons (Abst (front (drop (a + 2) t))) (terms (n - 1) (drop (a + 2 + word_count (front (drop (a + 2) t))) t))
   pub body : Begins 1 (drop (a + 2) t)
+  pub one : get_or t (a + 1) 0 ≡ 1
   pub begins : Begins (n - 1) (drop (a + 2 + word_count (front (drop (a + 2) t))) t)
 
 abstraction_step : {k s c w : ℕ} {ts us : Terms} → Step k s c ts us → w / 65536 ≡ k → w ≡ 196608
@@ -65,6 +67,7 @@ at_abstraction t a n b h v =
     record {
       terms_are = p.2 ∙ ap₂ (λ (u : Term) (z : Terms). Cons (Abst u) z) x (y ∙ ap (terms (n - 1)) w);
       body = begins_less 1 (omega arith) i;
+      one = p.4;
       begins = rw w at q.begins;
     }
 

@@ -28,6 +28,10 @@ node_gives s r t = (t.part ≡ s.part) × MatchOption r ((s.owed ≡ 0) × (t �
     (λ n. (0 < s.owed) × (n.word ≡ get_or s.part.now s.at 0) × (n.count ≡ get_or s.part.now (s.at + 1) 0) × (n.behind.now ≡ drop (s.at + 2) s.part.now)
     × (t.at ≡ s.at + 2) × (t.owed ≡ s.owed - 1 + n.count))
 
+-- on behind a term of so many words
+abbrev pub goes_past : Nodes → ℕ → Nodes → Type 0
+goes_past s words t = (t.part ≡ s.part) × (t.at ≡ s.at + words) × (t.owed ≡ s.owed - 1)
+
 -- no step goes past the part's end
 abbrev pub words_left : Nodes → ℕ
 words_left s = length s.part.now - s.at

@@ -32,6 +32,7 @@ fn compare_under(old: &[u32], new: &[u32], shift: u32, pairs: &[u32], under: usi
     requires { Begins 1 old.now × Begins 1 new.now × (under + length old.now < 2 ^ 64) }
     ensures { result ≡ compared pairs.now shift under (front old.now) (front new.now) }
 {
+    // Kept (point 3): one place and one count serve two walks; `Nodes` over each would keep both twice, and each would have an end of its own.
     let mut owed: usize = 1;
     let mut at: usize = 0;
     while 0 < owed {

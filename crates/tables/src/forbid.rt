@@ -5,6 +5,7 @@ ghost use Rattle.tables.specs.Parts.{front, Begins};
 ghost use Rattle.tables.specs.Forbidden.{clear, Small, marked, looked, marked_with};
 
 use crate::node::{ABSTRACTION, FIRST_SYMBOL};
+use crate::walk::Nodes;
 
 // Indices that a CHECK can list: its current term has at most 63 abstractions above it.
 pub const LISTED: usize = 64;
@@ -46,33 +47,21 @@ fn marks_of(indices: &[u32]) -> [u8; MARKS]
 }
 
 // Looks through the subterm that a part begins with, under so many abstractions: how many words it has, if no free variable of it is marked.
-// Nodes are passed by a running count of the terms still owed; only an abstraction takes a call.
+// Only an abstraction takes a call.
 fn look(part: &[u32], marks: &[u8; MARKS], under: usize) -> Option<usize>
     requires { Begins 1 part.now × (under + length part.now < 2 ^ 64) }
     ensures { result ≡ looked marks.now under (front part.now) }
 {
-    let mut owed: usize = 1;
-    let mut at: usize = 0;
-    while 0 < owed {
-        let word = part[at];
-        if word < FIRST_SYMBOL {
-            if is_marked(marks, word as usize, under) {
-                return None;
-            }
-            owed -= 1;
-            at += 2;
-            continue;
+    let mut nodes = Nodes::of(part);
+    while let Some(node) = nodes.next() {
+        if node.word < FIRST_SYMBOL && is_marked(marks, node.word as usize, under) {
+            return None;
         }
-        if word == ABSTRACTION {
-            let words = look(&part[at + 2..], marks, under + 1)?;
-            owed -= 1;
-            at += 2 + words;
-            continue;
+        if node.word == ABSTRACTION {
+            nodes.pass(look(node.behind, marks, under + 1)?);
         }
-        owed = owed - 1 + part[at + 1] as usize;
-        at += 2;
     }
-    Some(at)
+    Some(nodes.passed())
 }
 
 // Whether a variable, met under so many abstractions, is free there and marked.

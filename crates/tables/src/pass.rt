@@ -8,6 +8,7 @@ pub fn skip(part: &[u32]) -> usize
     requires { Begins 1 part.now }
     ensures { result ≡ word_count (front part.now) }
 {
+    // Kept (point 3): request 3 of document 02 puts one loop with one count in this place, with the figures that it asks for; a request lands alone.
     let mut left = part[1];
     let mut at: usize = 2;
     while 0 < left {

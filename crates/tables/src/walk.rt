@@ -1,8 +1,8 @@
 // The walk of a term, node by node: one running count of the terms still owed tells where it ends.
-ghost use Rattle.std.specs.Prelude.{◌≡◌};
+ghost use Rattle.std.specs.Prelude.{◌≡◌, ◌+◌, ◌≤◌, ◌<◌, length};
 ghost use Rattle.std.specs.Iterator.{at_most};
 ghost use Rattle.tables.specs.Parts.{Begins};
-ghost use Rattle.tables.specs.Nodes.{Stands, starts, is_metavariable, node_gives, words_left};
+ghost use Rattle.tables.specs.Nodes.{Stands, starts, is_metavariable, goes_past, node_gives, words_left};
 
 use crate::node::{ABSTRACTION, FIRST_METAVARIABLE};
 
@@ -41,6 +41,23 @@ impl<'a> Nodes<'a> {
             at: 0,
             owed: 1,
         }
+    }
+
+    // Goes on behind the first term that is owed, of so many words, which somebody else has gone over.
+    pub fn pass(&mut self, words: usize)
+        requires { (0 < self.old.owed) × (self.old.at + words ≤ length self.old.part.now) }
+        ensures { goes_past self.old words self.new }
+    {
+        self.at += words;
+        self.owed -= 1;
+    }
+
+    // How many words were gone over.
+    pub fn passed(&self) -> usize
+        ensures { result ≡ self.now.at }
+    {
+        let words = self.at;
+        words
     }
 }
 

@@ -1,42 +1,35 @@
-use mathlib.Core.Path.{sym, ◌∙◌}
-use native.Mathlib.Omega.{arith}
-use borrow.Author.Rules.{rules}
-use Rattle.tables.proofs.Walks.{body_falls, body_room}
-use Rattle.tables.proofs.Free.{looking_from, looking_variable, variable_marked, looking_applied, body, looking_body, body_marked, looking_ended}
+use Rattle.std.proofs.Common.{sym, ◌∙◌}
+use Rattle.tables.proofs.Free.{looking_from, variable_marked, looking_variable, looking_applied, body_marked, body_passes, looking_body, looking_ended}
 use Rattle.tables.proofs.forbid.+look.Goals as goal
+use Rattle.tables.proofs.forbid.+look.Goals.{else-node-lt-FIRST_SYMBOL-via-then-node-lt-FIRST_SYMBOL+else-is_marked, else-node-lt-FIRST_SYMBOL-via-else-node-lt-FIRST_SYMBOL}
 
-pub loop-owed-init : goal.loop-owed-init
-loop-owed-init t c = looking_from c.requires.0
+pub loop-node-init : goal.loop-node-init
+loop-node-init t c = looking_from _ c.requires.0 c.of-nodes.ensures
 
 pub returns-then-is_marked : goal.returns-then-is_marked
-returns-then-is_marked t c = variable_marked c.loop-owed.invariant c.loop-owed-test.true c.if-word-lt-FIRST_SYMBOL.true (sym c.is_marked.ensures ∙ c.if-is_marked.true)
+returns-then-is_marked t c =
+    variable_marked _ _ c.in-Some.node c.loop-node.invariant c.in-Some.ensures.steps c.if-node-lt-FIRST_SYMBOL.true (sym c.is_marked.ensures ∙ c.if-is_marked.true)
 
-pub loop-owed-preserved-then-word-lt-FIRST_SYMBOL : goal.loop-owed-preserved-then-word-lt-FIRST_SYMBOL
-loop-owed-preserved-then-word-lt-FIRST_SYMBOL t c = looking_variable c.loop-owed.invariant c.loop-owed-test.true c.if-word-lt-FIRST_SYMBOL.true (sym c.is_marked.ensures ∙ c.if-is_marked.false)
+pub returns-in_err-look : goal.returns-in_err-look
+returns-in_err-look t c =
+    c.from_residual.ensures
+    ∙ body_marked _ _ c.in-Some.node c.loop-node.invariant c.in-Some.ensures.steps c.if-node-eq-ABSTRACTION.true (sym c.in_err-look.was ∙ c.look.ensures)
 
-pub look-requires : goal.look-requires
-look-requires t c = (body_falls c.loop-owed.invariant.walk.walk c.loop-owed-test.true c.decreases, (body c.loop-owed.invariant c.loop-owed-test.true c.if-word-eq-ABSTRACTION.true, body_room c.loop-owed.invariant.walk.walk c.loop-owed-test.true _ _ c.requires.1 (omega arith)))
+pub pass-requires : goal.pass-requires
+pass-requires t c =
+    body_passes _ _ c.in-Some.node c.loop-node.invariant c.in-Some.ensures.steps c.if-node-eq-ABSTRACTION.true _ (sym c.in_ok-look.was ∙ c.look.ensures)
 
-pub returns-in_err-words : goal.returns-in_err-words
-returns-in_err-words t c = c.from_residual.ensures ∙ body_marked c.loop-owed.invariant c.loop-owed-test.true c.if-word-eq-ABSTRACTION.true (sym c.in_err-words.was ∙ c.look.ensures)
+pub loop-node-preserved-then-node-eq-ABSTRACTION : goal.loop-node-preserved-then-node-eq-ABSTRACTION
+loop-node-preserved-then-node-eq-ABSTRACTION t c =
+    looking_body _ _ c.in-Some.node c.loop-node.invariant c.in-Some.ensures.steps c.if-node-eq-ABSTRACTION.true _ (sym c.in_ok-look.was ∙ c.look.ensures) _ c.pass.ensures
 
-pub overflow_add-at-then-word-eq-ABSTRACTION-2 : goal.overflow_add-at-then-word-eq-ABSTRACTION-2
-overflow_add-at-then-word-eq-ABSTRACTION-2 t c = let o = looking_body c.loop-owed.invariant c.loop-owed-test.true _ c.if-word-eq-ABSTRACTION.true (sym c.in_ok-words.was ∙ c.look.ensures) in search rules
-
-pub overflow_add-at-then-word-eq-ABSTRACTION-3 : goal.overflow_add-at-then-word-eq-ABSTRACTION-3
-overflow_add-at-then-word-eq-ABSTRACTION-3 t c = let o = looking_body c.loop-owed.invariant c.loop-owed-test.true _ c.if-word-eq-ABSTRACTION.true (sym c.in_ok-words.was ∙ c.look.ensures) in search rules
-
-pub loop-owed-preserved-then-word-eq-ABSTRACTION : goal.loop-owed-preserved-then-word-eq-ABSTRACTION
-loop-owed-preserved-then-word-eq-ABSTRACTION t c = looking_body c.loop-owed.invariant c.loop-owed-test.true _ c.if-word-eq-ABSTRACTION.true (sym c.in_ok-words.was ∙ c.look.ensures)
-
-pub overflow_cast-owed : goal.overflow_cast-owed
-overflow_cast-owed t c = let o = looking_applied c.loop-owed.invariant c.loop-owed-test.true (omega arith) c.if-word-eq-ABSTRACTION.false in search rules
-
-pub overflow_add-owed-in-loop-owed : goal.overflow_add-owed-in-loop-owed
-overflow_add-owed-in-loop-owed t c = let o = looking_applied c.loop-owed.invariant c.loop-owed-test.true (omega arith) c.if-word-eq-ABSTRACTION.false in search rules
-
-pub loop-owed-preserved : goal.loop-owed-preserved
-loop-owed-preserved t c = looking_applied c.loop-owed.invariant c.loop-owed-test.true (omega arith) c.if-word-eq-ABSTRACTION.false
+pub loop-node-preserved : goal.loop-node-preserved
+loop-node-preserved t c = elim c.else-node-lt-FIRST_SYMBOL.branch [
+  | else-node-lt-FIRST_SYMBOL-via-then-node-lt-FIRST_SYMBOL+else-is_marked w ↦
+      looking_variable _ _ c.in-Some.node c.loop-node.invariant c.in-Some.ensures.steps w.if-node-lt-FIRST_SYMBOL.true (sym w.is_marked.ensures ∙ w.if-is_marked.false)
+  | else-node-lt-FIRST_SYMBOL-via-else-node-lt-FIRST_SYMBOL w ↦
+      looking_applied _ _ c.in-Some.node c.loop-node.invariant c.in-Some.ensures.steps w.if-node-lt-FIRST_SYMBOL.false c.if-node-eq-ABSTRACTION.false
+]
 
 pub returns : goal.returns
-returns t c = looking_ended c.loop-owed.invariant c.loop-owed-test.false
+returns t c = rw c.passed.ensures (looking_ended _ _ c.loop-node.invariant c.in_default.ensures.steps)
