@@ -74,6 +74,7 @@ pub fn put_before(
     requires { ((u : Term) × Built code.now subject.now entries.now work.now root u × (2 * nodes u ≤ end)) × (end ≤ length table.old) }
     ensures { (u : Term) → Built code.now subject.now entries.now work.now root u → 2 * nodes u ≤ end → Wrote table.old table.new (end - 2 * nodes u) end (table_of u) }
 {
+    // Kept (point 6): no heap; a stack of the most that may be open.
     let mut opened = [0u32; OPENED];
     let given = Given {
         code,

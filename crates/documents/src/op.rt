@@ -2,6 +2,8 @@
 ghost use Rattle.std.specs.Prelude.{◌≡◌, ◌<◌};
 ghost use Rattle.documents.specs.Instructions.{fixed_after};
 
+// Kept (point 1): opcodes are words of code that C lends, and named constants by the project's rule; an enum read by TryFrom would bring each run of
+// code that has passed an Err that cannot come.
 pub const IS: u32 = 0;
 
 pub const ISABST: u32 = 1;

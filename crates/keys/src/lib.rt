@@ -27,6 +27,7 @@ pub fn all_known(right: &[u32], left: &[u32]) -> bool
     requires { Begins 1 right.now × Begins 1 left.now × (length right.now ≤ 512) × (length left.now ≤ 512) }
     ensures { result ≡ contains (metas (front right.now)) (metas (front left.now)) }
 {
+    // Kept (point 6): no heap; as many keys as a side has nodes, of which those that were put are handed on as a part.
     let mut right_keys = [0u32; MOST_KEYS];
     let mut left_keys = [0u32; MOST_KEYS];
     let asked = put_keys(right, &mut right_keys);

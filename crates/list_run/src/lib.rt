@@ -63,6 +63,7 @@ fn begin(
     if work.len() < LIST_WORDS {
         return Err(Refusal::WorkingTableShort);
     }
+    // Kept (point 6): no heap; the most rules that there may be, of which those that there are are handed on as a part.
     let mut starts = [0usize; MOST_RULES];
     let count = lay(rules, &mut starts)?;
     accept(rules, &starts[..count], subject, rewrites, work, res)
@@ -136,6 +137,7 @@ fn turns(
         level: 1,
     };
     above.words[0] = 1;
+    // Kept (point 6): no heap; room for the most entries, lent to the match part, which says how many it made.
     let mut entries = [0u32; MOST_ENTRIES];
     let mut node: usize = 0;
     let mut made: u32 = 0;

@@ -49,6 +49,7 @@ pub fn match_part(code: &[u32], part: &[u32], entries: &mut [u32]) -> Result<Mat
     ensures { Comes code.now part.now entries.new result }
 {
     let mut here = Standing::START;
+    // Kept (point 3): the next instruction stands where the step says, and not one further.
     while code[here.at] <= EQI {
         here = step(code, part, entries, here)?;
     }
@@ -77,6 +78,7 @@ pub fn step(
         made,
     } = here;
     let op = code[at];
+    // Kept (point 7): an opcode says which step it is, and each step moves the place in its own way; closures would be as many, and need the same test.
     if op == IS {
         if part[top] != FIRST_SYMBOL + code[at + 1] || part[top + 1] != code[at + 2] {
             return Err(Refusal::MatchFails);

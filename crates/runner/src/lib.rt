@@ -45,6 +45,7 @@ fn rewrite(code: &[u32], subject: &[u32], work: &mut [u32], res: &mut [u32]) -> 
     requires { Begun code.now subject.now work.old }
     ensures { Applied code.now subject.now work.old work.new res.old res.new result }
 {
+    // Kept (point 6): no heap; room for the most entries, of which those that the match part made are handed on as a part.
     let mut entries = [0u32; MOST_ENTRIES];
     let matched = match_part(code, subject, &mut entries)?;
     build(

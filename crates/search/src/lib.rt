@@ -130,6 +130,7 @@ fn attempt(rules: Rules, set: u32, part: &[u32], entries: &mut [u32]) -> Option<
 {
     let mut left = set;
     let mut rule: usize = 0;
+    // Kept (point 3): the rules are the bits of a set, and the next one is as far on as the lowest bit says.
     while left != 0 {
         let gap = u32::trailing_zeros(left);
         rule += gap as usize;

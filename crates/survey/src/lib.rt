@@ -55,6 +55,7 @@ fn lay<const ACCEPTED: bool>(subject: &[u32], places: &mut [u32]) -> Result<usiz
     requires known { IsTrue ACCEPTED → subject_in subject.now ≡ answered (front subject.now) }
     ensures { Surveyed subject.now places.new result }
 {
+    // Kept (point 6): no heap; a stack of the most levels that may wait.
     let mut waiting = [0u32; MOST_DEPTH];
     let mut kept: usize = 0;
     let mut here = ROOT;

@@ -1,5 +1,6 @@
 // The words of a node, in the order of 01's table of kinds.
 
+// Kept (point 1): a first word has kind and name in one, 01's layout of a lent table; the kinds are ranges of it, and tests of one bound.
 // First words from here on are no variables any more.
 pub const FIRST_SYMBOL: u32 = 65536;
 

@@ -41,6 +41,7 @@ pub fn turn(
 {
     let next = fetch(code, at, code.len())?;
     let op = code[at];
+    // Kept (point 7): as in matcher's step, each opcode has a test of its own.
     if op == IS {
         return arguments(code[at + 1], code[at + 2], next, d, below);
     }

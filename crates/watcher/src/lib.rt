@@ -41,6 +41,7 @@ fn follow(code: &[u32], subject: &[u32], i: u32) -> Result<Counts, Refusal>
     requires { (passes code.now ≡ true) × (subject_in subject.now ≡ answered (front subject.now)) }
     ensures { result ≡ as_watched (watches code.now subject.now i) }
 {
+    // Kept (point 6): no heap; room for the most entries.
     let mut entries = [0u32; MOST_ENTRIES];
     let mut here = Standing::START;
     for done in 0..i {
