@@ -32,6 +32,9 @@ pub struct Weighed {
 }
 
 // The build part from its place on, for a root at a level, the whole's own root being at 1, and so much room; or which limit the whole breaks: 13, 14, 15.
+//
+// Kept (point 5): code, subject and entries come apart, since a rewrite's subject is a part of the plan here and a part of its copy in `put_before`. Both
+// make a `Given` of them.
 pub fn weigh(
     code: &[u32],
     at: usize,

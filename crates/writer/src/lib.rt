@@ -44,6 +44,7 @@ pub fn write(
     let mut left: u32 = 1;
     let mut to = end;
     let mut lambdas = place.lambdas;
+    // Kept (point 6): no heap, so the nodes that wait stand in a lent table, and beside it how many they are.
     let mut kept = place.level;
     loop {
         if left == 0 {
@@ -128,6 +129,9 @@ fn head(code: &[u32], at: usize) -> u32
 }
 
 // A node's two words.
+//
+// Kept (point 6): a table is written from its end to its front. Cut to its first `end` words for each call it would need no `end`, but each caller would
+// have to put the part that it lent and the words behind it together again.
 fn put(res: &mut [u32], end: usize, word: u32, count: u32) -> usize
     requires { (2 ≤ end) × (end ≤ length res.old) }
     ensures { Wrote res.old res.new result end (word ∷ count ∷ []) }

@@ -1,5 +1,4 @@
 use lib.ListN.{replicate}
-use native.Mathlib.Omega.{arith}
 use Rattle.links.proofs.Scenes.{known_of}
 use mathlib.Core.Path.{refl}
 use Rattle.builder.proofs.Weighing.{may_write, written}
@@ -7,9 +6,6 @@ use Rattle.builder.proofs.put_before.Goals as goal
 
 pub invariant_of-given : goal.invariant_of-given
 invariant_of-given c = record { known = known_of c.requires.0.1.scene }
-
-pub invariant_of-place : goal.invariant_of-place
-invariant_of-place c = let s = c.requires.0.1.scene.code_short in record { few = omega arith; small = omega arith }
 
 pub write-requires : goal.write-requires
 write-requires c = may_write c.requires.0.1 (replicate 128 0) _ _ refl c.requires.0.2 c.requires.1

@@ -1,5 +1,5 @@
 use Rattle.tables.proofs.Parts.{from_drop}
-use Rattle.measurer.proofs.Walked.{root_room, not_below, few_levels, next_words, free_here, large_here, meets_here, larger_here, met_on, pass_on, end_small}
+use Rattle.measurer.proofs.Walked.{root_room, not_below, free_here, large_here, larger_here, met_on, pass_on, end_small}
 use Rattle.trees.specs.Trees.{further}
 use Rattle.links.proofs.Keyed.{bodied_readable}
 use Rattle.measurer.proofs.Answering.{measures_of, measures_large, pushes_of, pushes_large, spreads_are, meets_too_large, small_reach, noted_small, end_answer, full_answer, plain_pre, growing_plain, push_answer, over_answer, growing_at, push_falls, next_pre}
@@ -9,15 +9,12 @@ use Prim.Native.Nat.{◌+◌, ◌/◌}
 use lib.ListN.{length, drop}
 use Rattle.measurer.proofs.Asking.{sequence_of, push_of, spreading_of, free_of, asks_sequence, asks_push, asks_spread, asks_free}
 use Rattle.measurer.proofs.Growing.{growing_from, growing_lambda, pushable}
-use Rattle.measurer.proofs.Spreading.{span_from, place_room, span_end}
+use Rattle.measurer.proofs.Spreading.{span_from, span_end}
 use Rattle.measurer.proofs.Meeting.{meets_none, key_in, key_long, body_end_lem, body_low, body_sequence, noted, noted_root, meets_before, root_small, note_room, depth_room, meets_now}
-use Rattle.measurer.proofs.Pushing.{first_low, whole_spreading, whole_pushes, whole_large, bodies_pre, bodies_read, push_spreading, push_pushes, whole_falls, bodies_fall}
+use Rattle.measurer.proofs.Pushing.{first_low, whole_spreading, whole_pushes, whole_large, bodies_read, push_spreading, push_pushes, whole_falls, bodies_fall}
 use borrow.Author.Rules.{rules}
 use Prim.Native.Nat.{ℕ}
 use Rattle.measurer.proofs.+free_measure_push_spread.Goals as goal
-
-pub free-overflow_add-push : goal.free-overflow_add-push
-free-overflow_add-push t c = let q = free_of c.args.walk.now.given.known c.args.walk.now.few c.args.push.low c.requires in let w = q.words in let s = q.scene.code_short in search rules
 
 pub free-find-requires : goal.free-find-requires
 free-find-requires t c = let s = c.args in bodied_readable s.walk.now.given.code.now (s.push.at + 4) s.push.count (length s.walk.now.given.entries.now) c.requires.makes
@@ -42,9 +39,6 @@ free-offset_bounds-code-key t c = let q = free_of c.args.walk.now.given.known c.
 
 pub free-bounds-code-key : goal.free-bounds-code-key
 free-bounds-code-key t c = let q = free_of c.args.walk.now.given.known c.args.walk.now.few c.args.push.low c.requires in let b = key_in q (sym c.in-Some.is ∙ c.find.ensures) in omega arith
-
-pub free-overflow_cast-end : goal.free-overflow_cast-end
-free-overflow_cast-end t c = let q = free_of c.args.walk.now.given.known c.args.walk.now.few c.args.push.low c.requires in let b = key_in q (sym c.in-Some.is ∙ c.find.ensures) in let s = q.scene.code_short in search rules
 
 pub free-overflow_add-end-then-work-key-eq0 : goal.free-overflow_add-end-then-work-key-eq0
 free-overflow_add-end-then-work-key-eq0 t c = let q = free_of c.args.walk.now.given.known c.args.walk.now.few c.args.push.low c.requires in let b = key_in q (sym c.in-Some.is ∙ c.find.ensures) in let s = q.scene.code_short in search rules
@@ -88,26 +82,8 @@ free-shifted-requires t c = let q = free_of c.args.walk.now.given.known c.args.w
 pub free-returns-then-work-key-eq0 : goal.free-returns-then-work-key-eq0
 free-returns-then-work-key-eq0 t c = let q = free_of c.args.walk.now.given.known c.args.walk.now.few c.args.push.low c.requires in meets_now q (sym c.in-Some.is ∙ c.find.ensures) c.measure.ensures.kept (measures_of c.measure.ensures c.in_ok-nodes.was) _ c.if-work-key-eq0.true c.new.ensures c.depth.ensures.0 c.shifted.ensures
 
-pub free-overflow_add-note : goal.free-overflow_add-note
-free-overflow_add-note t c = let q = free_of c.args.walk.now.given.known c.args.walk.now.few c.args.push.low c.requires in let b = key_long q (sym c.in-Some.is ∙ c.find.ensures) in search rules
-
-pub free-offset_bounds-work-key-2 : goal.free-offset_bounds-work-key-2
-free-offset_bounds-work-key-2 t c = let q = free_of c.args.walk.now.given.known c.args.walk.now.few c.args.push.low c.requires in let b = key_long q (sym c.in-Some.is ∙ c.find.ensures) in search rules
-
 pub free-bounds-work-key-2 : goal.free-bounds-work-key-2
 free-bounds-work-key-2 t c = let q = free_of c.args.walk.now.given.known c.args.walk.now.few c.args.push.low c.requires in let b = key_long q (sym c.in-Some.is ∙ c.find.ensures) in omega arith
-
-pub free-offset_bounds-work-key-3 : goal.free-offset_bounds-work-key-3
-free-offset_bounds-work-key-3 t c = let q = free_of c.args.walk.now.given.known c.args.walk.now.few c.args.push.low c.requires in let b = key_long q (sym c.in-Some.is ∙ c.find.ensures) in search rules
-
-pub free-bounds-work-key-3 : goal.free-bounds-work-key-3
-free-bounds-work-key-3 t c = let q = free_of c.args.walk.now.given.known c.args.walk.now.few c.args.push.low c.requires in let b = key_long q (sym c.in-Some.is ∙ c.find.ensures) in omega arith
-
-pub free-overflow_cast-root : goal.free-overflow_cast-root
-free-overflow_cast-root t c = let q = free_of c.args.walk.now.given.known c.args.walk.now.few c.args.push.low c.requires in let K = sym c.in-Some.is ∙ c.find.ensures in let r = noted_root q K (noted q K c.if-work-key-eq0.false) in let b = key_long q K in search rules
-
-pub free-offset_bounds-work-root-2 : goal.free-offset_bounds-work-root-2
-free-offset_bounds-work-root-2 t c = let q = free_of c.args.walk.now.given.known c.args.walk.now.few c.args.push.low c.requires in let K = sym c.in-Some.is ∙ c.find.ensures in let r = noted_root q K (noted q K c.if-work-key-eq0.false) in let b = key_long q K in search rules
 
 pub free-bounds-work-root-2 : goal.free-bounds-work-root-2
 free-bounds-work-root-2 t c = let q = free_of c.args.walk.now.given.known c.args.walk.now.few c.args.push.low c.requires in let K = sym c.in-Some.is ∙ c.find.ensures in let r = noted_root q K (noted q K c.if-work-key-eq0.false) in let b = key_long q K in omega arith
@@ -142,9 +118,6 @@ measure-returns-in_err-span t c = let q = sequence_of c.args.walk.now.given.know
 pub measure-returns-then-walk-sum-2 : goal.measure-returns-then-walk-sum-2
 measure-returns-then-walk-sum-2 t c = let q = sequence_of c.args.walk.now.given.known c.args.walk.now.few c.requires in let P = pushable _ _ _ _ _ _ _ q c.loop-at.invariant c.loop-at-test.true (let h = c.if-op-lt-PUSHIMM.false in omega arith) in over_answer q c.loop-at.invariant c.loop-at-test.true P c.push.ensures.kept (pushes_of c.push.ensures c.in_ok-span.was).size c.if-walk-sum-2.true
 
-pub measure-new-requires : goal.measure-new-requires
-measure-new-requires t c = let q = sequence_of c.args.walk.now.given.known c.args.walk.now.few c.requires in let z = c.loop-at.invariant.root_low in let h = c.loop-at.invariant.high in let i = q.inside in let u = q.scene.code_short in let d = (pushes_of c.push.ensures c.in_ok-span.was).deep in let l = c.loop-at-test.true in (omega arith, omega arith, omega arith)
-
 pub measure-next-at-requires : goal.measure-next-at-requires
 measure-next-at-requires t c = let q = sequence_of c.args.walk.now.given.known c.args.walk.now.few c.requires in let P = pushable _ _ _ _ _ _ _ q c.loop-at.invariant c.loop-at-test.true (let h = c.if-op-lt-PUSHIMM.false in omega arith) in next_pre q c.loop-at.invariant c.loop-at-test.true P
 
@@ -166,9 +139,6 @@ push-slice_bounds-part-count t c = let q = push_of c.args.walk.now.given.known c
 pub push-slice_bounds-part-start : goal.push-slice_bounds-part-start
 push-slice_bounds-part-start t c = let q = push_of c.args.walk.now.given.known c.args.walk.now.few c.requires in let l = first_low q in let e = c.entry-first.ensures in let s = q.scene.few in search rules
 
-pub push-overflow_add-places : goal.push-overflow_add-places
-push-overflow_add-places t c = let q = push_of c.args.walk.now.given.known c.args.walk.now.few c.requires in let l = first_low q in let e = c.entry-first.ensures in let s = q.scene.few in search rules
-
 pub push-spread-requires : goal.push-spread-requires
 push-spread-requires t c = let q = push_of c.args.walk.now.given.known c.args.walk.now.few c.requires in (whole_falls q c.if-code-at-eq-PUSHIMM.true _ c.decreases, asks_spread (whole_spreading q c.if-code-at-eq-PUSHIMM.true (from_drop c.entry-first.result c.args.walk.now.given.subject.now ∙ ap (λ (f : ℕ). drop f c.args.walk.now.given.subject.now) c.entry-first.ensures) (ap (λ (f : ℕ). 4096 + f / 2) c.entry-first.ensures)))
 
@@ -178,14 +148,8 @@ push-returns-in_err-span t c = let q = push_of c.args.walk.now.given.known c.arg
 pub push-returns-then-code-at-eq-PUSHIMM : goal.push-returns-then-code-at-eq-PUSHIMM
 push-returns-then-code-at-eq-PUSHIMM t c = let q = push_of c.args.walk.now.given.known c.args.walk.now.few c.requires in whole_pushes q c.if-code-at-eq-PUSHIMM.true (spreads_are c.spread.ensures c.in_ok-span.was)
 
-pub push-bounds-code-at-3 : goal.push-bounds-code-at-3
-push-bounds-code-at-3 t c = let q = push_of c.args.walk.now.given.known c.args.walk.now.few c.requires in let b = (bodies_pre q c.if-code-at-eq-PUSHIMM.false).0 in omega arith
-
 pub push-forget-requires : goal.push-forget-requires
 push-forget-requires t c = let q = push_of c.args.walk.now.given.known c.args.walk.now.few c.requires in (bodies_read q c.if-code-at-eq-PUSHIMM.false, (let u = q.scene.code_short in let w = q.scene.work_long in omega arith))
-
-pub push-bounds-code-at-4 : goal.push-bounds-code-at-4
-push-bounds-code-at-4 t c = let q = push_of c.args.walk.now.given.known c.args.walk.now.few c.requires in let b = (bodies_pre q c.if-code-at-eq-PUSHIMM.false).0 in omega arith
 
 pub push-spread-requires-2 : goal.push-spread-requires-2
 push-spread-requires-2 t c = let q = push_of c.args.walk.now.given.known c.args.walk.now.few c.requires in (bodies_fall q c.if-code-at-eq-PUSHIMM.false _ c.decreases, asks_spread (push_spreading q c.if-code-at-eq-PUSHIMM.false c.forget.ensures (from_drop c.entry-first.result c.args.walk.now.given.subject.now ∙ ap (λ (f : ℕ). drop f c.args.walk.now.given.subject.now) c.entry-first.ensures) (ap (λ (f : ℕ). 4096 + f / 2) c.entry-first.ensures)))
@@ -202,23 +166,8 @@ spread-bounds-work-places t c = let q = spreading_of c.args.walk.now.given.known
 pub spread-loop-owed-init : goal.spread-loop-owed-init
 spread-loop-owed-init t c = let q = spreading_of c.args.walk.now.given.known c.args.walk.now.few c.args.push.low c.requires in (span_from q, refl)
 
-pub spread-overflow_add-here : goal.spread-overflow_add-here
-spread-overflow_add-here t c = let q = spreading_of c.args.walk.now.given.known c.args.walk.now.few c.args.push.low c.requires in let k = place_room q c.loop-owed.invariant.0 c.loop-owed-test.true in search rules
-
-pub spread-offset_bounds-work-places-in-loop-owed : goal.spread-offset_bounds-work-places-in-loop-owed
-spread-offset_bounds-work-places-in-loop-owed t c = let q = spreading_of c.args.walk.now.given.known c.args.walk.now.few c.args.push.low c.requires in let k = place_room q c.loop-owed.invariant.0 c.loop-owed-test.true in search rules
-
-pub spread-bounds-work-places-in-loop-owed : goal.spread-bounds-work-places-in-loop-owed
-spread-bounds-work-places-in-loop-owed t c = let q = spreading_of c.args.walk.now.given.known c.args.walk.now.few c.args.push.low c.requires in place_room q c.loop-owed.invariant.0 c.loop-owed-test.true
-
 pub spread-overflow_sub-here : goal.spread-overflow_sub-here
 spread-overflow_sub-here t c = let q = spreading_of c.args.walk.now.given.known c.args.walk.now.few c.args.push.low c.requires in let k = not_below q c.loop-owed.invariant.0 c.loop-owed.invariant.1 c.loop-owed-test.true in search rules
-
-pub spread-overflow_cast-owed : goal.spread-overflow_cast-owed
-spread-overflow_cast-owed t c = let q = spreading_of c.args.walk.now.given.known c.args.walk.now.few c.args.push.low c.requires in let k = next_words q c.loop-owed.invariant.0 c.loop-owed.invariant.1 c.loop-owed-test.true in search rules
-
-pub spread-overflow_add-owed-in-loop-owed : goal.spread-overflow_add-owed-in-loop-owed
-spread-overflow_add-owed-in-loop-owed t c = let q = spreading_of c.args.walk.now.given.known c.args.walk.now.few c.args.push.low c.requires in let k = next_words q c.loop-owed.invariant.0 c.loop-owed.invariant.1 c.loop-owed-test.true in search rules
 
 pub spread-free-requires : goal.spread-free-requires
 spread-free-requires t c = let q = spreading_of c.args.walk.now.given.known c.args.walk.now.few c.args.push.low c.requires in ((let m = c.decreases in omega arith), asks_free (free_here q c.loop-owed.invariant.0 c.loop-owed.invariant.1 c.loop-owed-test.true c.is_free.ensures c.if-is_free.true))
@@ -226,29 +175,14 @@ spread-free-requires t c = let q = spreading_of c.args.walk.now.given.known c.ar
 pub spread-returns-in_err-span : goal.spread-returns-in_err-span
 spread-returns-in_err-span t c = let q = spreading_of c.args.walk.now.given.known c.args.walk.now.few c.args.push.low c.requires in rw c.from_residual.ensures (large_here q c.loop-owed.invariant.0 c.loop-owed.invariant.1 c.loop-owed-test.true c.is_free.ensures c.if-is_free.true c.free.ensures c.in_err-span.was)
 
-pub spread-overflow_sub-more : goal.spread-overflow_sub-more
-spread-overflow_sub-more t c = let q = spreading_of c.args.walk.now.given.known c.args.walk.now.few c.args.push.low c.requires in let m = meets_here q c.loop-owed.invariant.0 c.loop-owed.invariant.1 c.loop-owed-test.true c.is_free.ensures c.if-is_free.true c.free.ensures c.in_ok-span.was in let a = m.0 in search rules
-
-pub spread-overflow_add-more : goal.spread-overflow_add-more
-spread-overflow_add-more t c = let q = spreading_of c.args.walk.now.given.known c.args.walk.now.few c.args.push.low c.requires in let m = meets_here q c.loop-owed.invariant.0 c.loop-owed.invariant.1 c.loop-owed-test.true c.is_free.ensures c.if-is_free.true c.free.ensures c.in_ok-span.was in let a = m.1 in let f = c.loop-owed.invariant.0.few in let g = q.few in search rules
-
 pub spread-returns-then-walk-more : goal.spread-returns-then-walk-more
 spread-returns-then-walk-more t c = let q = spreading_of c.args.walk.now.given.known c.args.walk.now.few c.args.push.low c.requires in larger_here q c.loop-owed.invariant.0 c.loop-owed.invariant.1 c.loop-owed-test.true c.is_free.ensures c.if-is_free.true c.free.ensures c.in_ok-span.was c.if-walk-more.true
-
-pub spread-overflow_add-here-then-is_free : goal.spread-overflow_add-here-then-is_free
-spread-overflow_add-here-then-is_free t c = let q = spreading_of c.args.walk.now.given.known c.args.walk.now.few c.args.push.low c.requires in let m = meets_here q c.loop-owed.invariant.0 c.loop-owed.invariant.1 c.loop-owed-test.true c.is_free.ensures c.if-is_free.true c.free.ensures c.in_ok-span.was in let a = m.2 in let k = few_levels q c.loop-owed.invariant.0 c.loop-owed.invariant.1 c.loop-owed-test.true in search rules
 
 pub spread-loop-owed-preserved-then-is_free : goal.spread-loop-owed-preserved-then-is_free
 spread-loop-owed-preserved-then-is_free t c = let q = spreading_of c.args.walk.now.given.known c.args.walk.now.few c.args.push.low c.requires in (met_on q c.loop-owed.invariant.0 c.loop-owed.invariant.1 c.loop-owed-test.true c.is_free.ensures c.if-is_free.true c.free.ensures c.in_ok-span.was (let h = c.if-walk-more.false in omega arith) c.max-highest.ensures c.max-deepest.ensures c.max-farthest.ensures, c.loop-owed.invariant.1)
 
 pub spread-loop-owed-preserved : goal.spread-loop-owed-preserved
 spread-loop-owed-preserved t c = let q = spreading_of c.args.walk.now.given.known c.args.walk.now.few c.args.push.low c.requires in (pass_on q c.loop-owed.invariant.0 c.loop-owed.invariant.1 c.loop-owed-test.true c.is_free.ensures c.if-is_free.false c.max-highest.ensures, c.loop-owed.invariant.1)
-
-pub spread-overflow_sub-work : goal.spread-overflow_sub-work
-spread-overflow_sub-work t c = let q = spreading_of c.args.walk.now.given.known c.args.walk.now.few c.args.push.low c.requires in let e = end_small q c.loop-owed.invariant.0 (omega arith) in let b = e.1 in search rules
-
-pub spread-overflow_add-work : goal.spread-overflow_add-work
-spread-overflow_add-work t c = let q = spreading_of c.args.walk.now.given.known c.args.walk.now.few c.args.push.low c.requires in let e = end_small q c.loop-owed.invariant.0 (omega arith) in let a = e.0 in let b = e.1 in search rules
 
 pub spread-overflow_mul-work : goal.spread-overflow_mul-work
 spread-overflow_mul-work t c = let q = spreading_of c.args.walk.now.given.known c.args.walk.now.few c.args.push.low c.requires in let e = end_small q c.loop-owed.invariant.0 (omega arith) in let a = e.0 in let b = e.1 in search rules

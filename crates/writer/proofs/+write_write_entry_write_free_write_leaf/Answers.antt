@@ -1,8 +1,7 @@
 use mathlib.Core.Path.{refl, sym, ap, ◌∙◌}
-use Prim.Native.Nat.{◌+◌, ◌-◌, ◌*◌}
 use native.Mathlib.Omega.{arith}
 use mathlib.Core.List.{[], ◌∷◌}
-use lib.ListN.{length, length-set}
+use lib.ListN.{length}
 use borrow.Author.Rules.{rules}
 use Rattle.links.proofs.Variables.{free_low}
 use Rattle.writer.proofs.Moves.{moves_pushed}
@@ -17,41 +16,8 @@ use Rattle.writer.proofs.+write_write_entry_write_free_write_leaf.Goals as goal
 pub write-loop-left-init : goal.write-loop-left-init
 write-loop-left-init t c = let y = ready_of c.args.given.now.known c.args.place.few c.args.place.small c.requires.0 in writing_from y c.requires.1
 
-pub write-shape_of-res-then-kept-place : goal.write-shape_of-res-then-kept-place
-write-shape_of-res-then-kept-place t c = c.loop-left.invariant.same_length
-
-pub write-shape_of-opened-then-kept-place : goal.write-shape_of-opened-then-kept-place
-write-shape_of-opened-then-kept-place t c = c.loop-left.invariant.opened_long
-
 pub write-returns-then-kept-place : goal.write-returns-then-kept-place
 write-returns-then-kept-place t c = (writing_ended c.loop-left.invariant (omega arith) c.if-kept-place.true, c.loop-left.invariant.same)
-
-pub write-overflow_sub-kept : goal.write-overflow_sub-kept
-write-overflow_sub-kept t c = let y = ready_of c.args.given.now.known c.args.place.few c.args.place.small c.requires.0 in let a = closed_kept c.loop-left.invariant (omega arith) c.if-kept-place.false in let n = c.loop-left.invariant.ready.long in let v = closed_within c.loop-left.invariant (omega arith) c.if-kept-place.false in let s = y.scene.code_short in let m = y.scene.work_long in search rules
-
-pub write-overflow_add-node : goal.write-overflow_add-node
-write-overflow_add-node t c = let y = ready_of c.args.given.now.known c.args.place.few c.args.place.small c.requires.0 in let a = closed_kept c.loop-left.invariant (omega arith) c.if-kept-place.false in let n = c.loop-left.invariant.ready.long in let v = closed_within c.loop-left.invariant (omega arith) c.if-kept-place.false in let s = y.scene.code_short in let m = y.scene.work_long in search rules
-
-pub write-offset_bounds-opened-kept : goal.write-offset_bounds-opened-kept
-write-offset_bounds-opened-kept t c = let y = ready_of c.args.given.now.known c.args.place.few c.args.place.small c.requires.0 in let a = closed_kept c.loop-left.invariant (omega arith) c.if-kept-place.false in let n = c.loop-left.invariant.ready.long in let v = closed_within c.loop-left.invariant (omega arith) c.if-kept-place.false in let s = y.scene.code_short in let m = y.scene.work_long in search rules
-
-pub write-bounds-opened-kept : goal.write-bounds-opened-kept
-write-bounds-opened-kept t c = let y = ready_of c.args.given.now.known c.args.place.few c.args.place.small c.requires.0 in let a = closed_kept c.loop-left.invariant (omega arith) c.if-kept-place.false in let n = c.loop-left.invariant.ready.long in let v = closed_within c.loop-left.invariant (omega arith) c.if-kept-place.false in let s = y.scene.code_short in let m = y.scene.work_long in search rules
-
-pub write-overflow_cast-node : goal.write-overflow_cast-node
-write-overflow_cast-node t c = let y = ready_of c.args.given.now.known c.args.place.few c.args.place.small c.requires.0 in let a = closed_kept c.loop-left.invariant (omega arith) c.if-kept-place.false in let n = c.loop-left.invariant.ready.long in let v = closed_within c.loop-left.invariant (omega arith) c.if-kept-place.false in let s = y.scene.code_short in let m = y.scene.work_long in search rules
-
-pub write-overflow_add-left : goal.write-overflow_add-left
-write-overflow_add-left t c = let y = ready_of c.args.given.now.known c.args.place.few c.args.place.small c.requires.0 in let a = closed_kept c.loop-left.invariant (omega arith) c.if-kept-place.false in let n = c.loop-left.invariant.ready.long in let v = closed_within c.loop-left.invariant (omega arith) c.if-kept-place.false in let s = y.scene.code_short in let m = y.scene.work_long in search rules
-
-pub write-offset_bounds-opened-kept-then-left-eq0 : goal.write-offset_bounds-opened-kept-then-left-eq0
-write-offset_bounds-opened-kept-then-left-eq0 t c = let y = ready_of c.args.given.now.known c.args.place.few c.args.place.small c.requires.0 in let a = closed_kept c.loop-left.invariant (omega arith) c.if-kept-place.false in let n = c.loop-left.invariant.ready.long in let v = closed_within c.loop-left.invariant (omega arith) c.if-kept-place.false in let s = y.scene.code_short in let m = y.scene.work_long in search rules
-
-pub write-bounds-opened-kept-then-left-eq0 : goal.write-bounds-opened-kept-then-left-eq0
-write-bounds-opened-kept-then-left-eq0 t c = let y = ready_of c.args.given.now.known c.args.place.few c.args.place.small c.requires.0 in let a = closed_kept c.loop-left.invariant (omega arith) c.if-kept-place.false in let n = c.loop-left.invariant.ready.long in let v = closed_within c.loop-left.invariant (omega arith) c.if-kept-place.false in let s = y.scene.code_short in let m = y.scene.work_long in search rules
-
-pub write-offset_bounds-work-node : goal.write-offset_bounds-work-node
-write-offset_bounds-work-node t c = let y = ready_of c.args.given.now.known c.args.place.few c.args.place.small c.requires.0 in let a = closed_kept c.loop-left.invariant (omega arith) c.if-kept-place.false in let n = c.loop-left.invariant.ready.long in let v = closed_within c.loop-left.invariant (omega arith) c.if-kept-place.false in let s = y.scene.code_short in let m = y.scene.work_long in search rules
 
 pub write-bounds-work-node : goal.write-bounds-work-node
 write-bounds-work-node t c = let y = ready_of c.args.given.now.known c.args.place.few c.args.place.small c.requires.0 in let a = closed_kept c.loop-left.invariant (omega arith) c.if-kept-place.false in let n = c.loop-left.invariant.ready.long in let v = closed_within c.loop-left.invariant (omega arith) c.if-kept-place.false in let s = y.scene.code_short in let m = y.scene.work_long in search rules
@@ -68,9 +34,6 @@ write-put-to-requires t c = (closed_fit c.loop-left.invariant (omega arith) c.if
 pub write-outer-lambdas-requires : goal.write-outer-lambdas-requires
 write-outer-lambdas-requires t c = (closed_within c.loop-left.invariant (omega arith) c.if-kept-place.false, closed_some c.loop-left.invariant (omega arith) c.if-kept-place.false)
 
-pub write-loop-left-smaller-then-left-eq0 : goal.write-loop-left-smaller-then-left-eq0
-write-loop-left-smaller-then-left-eq0 t c = let a = closed_kept c.loop-left.invariant (omega arith) c.if-kept-place.false in let r = c.put-to.ensures.ends in search rules
-
 pub write-loop-left-preserved-then-left-eq0 : goal.write-loop-left-preserved-then-left-eq0
 write-loop-left-preserved-then-left-eq0 t c = writing_closed c.loop-left.invariant (omega arith) c.if-kept-place.false c.outer-lambdas.ensures c.before-at.ensures c.head.ensures c.arguments.ensures c.put-to.ensures c.put-to.auto.res
 
@@ -86,29 +49,11 @@ write-overflow_cast-opened t c = let y = ready_of c.args.given.now.known c.args.
 pub write-overflow_mul-opened : goal.write-overflow_mul-opened
 write-overflow_mul-opened t c = let y = ready_of c.args.given.now.known c.args.place.few c.args.place.small c.requires.0 in let a = writing_at c.loop-left.invariant (omega arith) in let s = y.scene.code_short in let m = y.scene.work_long in let k = opened_high c.loop-left.invariant (omega arith) c.if-code-at-lt-PUSHVAR.true in let n = c.loop-left.invariant.ready.long in let q = c.loop-left.invariant.ready.lambdas in let f = c.loop-left.invariant.few in search rules
 
-pub write-overflow_sub-opened : goal.write-overflow_sub-opened
-write-overflow_sub-opened t c = let y = ready_of c.args.given.now.known c.args.place.few c.args.place.small c.requires.0 in let a = writing_at c.loop-left.invariant (omega arith) in let s = y.scene.code_short in let m = y.scene.work_long in let k = opened_high c.loop-left.invariant (omega arith) c.if-code-at-lt-PUSHVAR.true in let n = c.loop-left.invariant.ready.long in let q = c.loop-left.invariant.ready.lambdas in let f = c.loop-left.invariant.few in search rules
-
 pub write-overflow_add-opened : goal.write-overflow_add-opened
 write-overflow_add-opened t c = let y = ready_of c.args.given.now.known c.args.place.few c.args.place.small c.requires.0 in let a = writing_at c.loop-left.invariant (omega arith) in let s = y.scene.code_short in let m = y.scene.work_long in let k = opened_high c.loop-left.invariant (omega arith) c.if-code-at-lt-PUSHVAR.true in let n = c.loop-left.invariant.ready.long in let q = c.loop-left.invariant.ready.lambdas in let f = c.loop-left.invariant.few in search rules
 
-pub write-overflow_add-opened-then-code-at-lt-PUSHVAR : goal.write-overflow_add-opened-then-code-at-lt-PUSHVAR
-write-overflow_add-opened-then-code-at-lt-PUSHVAR t c = let y = ready_of c.args.given.now.known c.args.place.few c.args.place.small c.requires.0 in let a = writing_at c.loop-left.invariant (omega arith) in let s = y.scene.code_short in let m = y.scene.work_long in let k = opened_high c.loop-left.invariant (omega arith) c.if-code-at-lt-PUSHVAR.true in let n = c.loop-left.invariant.ready.long in let q = c.loop-left.invariant.ready.lambdas in let f = c.loop-left.invariant.few in search rules
-
-pub write-offset_bounds-opened-kept-then-code-at-lt-PUSHVAR : goal.write-offset_bounds-opened-kept-then-code-at-lt-PUSHVAR
-write-offset_bounds-opened-kept-then-code-at-lt-PUSHVAR t c = let y = ready_of c.args.given.now.known c.args.place.few c.args.place.small c.requires.0 in let a = writing_at c.loop-left.invariant (omega arith) in let s = y.scene.code_short in let m = y.scene.work_long in let k = opened_high c.loop-left.invariant (omega arith) c.if-code-at-lt-PUSHVAR.true in let n = c.loop-left.invariant.ready.long in let q = c.loop-left.invariant.ready.lambdas in let f = c.loop-left.invariant.few in search rules
-
 pub write-bounds-opened-kept-then-code-at-lt-PUSHVAR : goal.write-bounds-opened-kept-then-code-at-lt-PUSHVAR
 write-bounds-opened-kept-then-code-at-lt-PUSHVAR t c = let y = ready_of c.args.given.now.known c.args.place.few c.args.place.small c.requires.0 in let a = writing_at c.loop-left.invariant (omega arith) in let s = y.scene.code_short in let m = y.scene.work_long in let k = opened_high c.loop-left.invariant (omega arith) c.if-code-at-lt-PUSHVAR.true in let n = c.loop-left.invariant.ready.long in let q = c.loop-left.invariant.ready.lambdas in let f = c.loop-left.invariant.few in search rules
-
-pub write-overflow_add-kept : goal.write-overflow_add-kept
-write-overflow_add-kept t c = let y = ready_of c.args.given.now.known c.args.place.few c.args.place.small c.requires.0 in let a = writing_at c.loop-left.invariant (omega arith) in let s = y.scene.code_short in let m = y.scene.work_long in let k = opened_high c.loop-left.invariant (omega arith) c.if-code-at-lt-PUSHVAR.true in let n = c.loop-left.invariant.ready.long in let q = c.loop-left.invariant.ready.lambdas in let f = c.loop-left.invariant.few in search rules
-
-pub write-offset_bounds-opened-lambdas : goal.write-offset_bounds-opened-lambdas
-write-offset_bounds-opened-lambdas t c = let y = ready_of c.args.given.now.known c.args.place.few c.args.place.small c.requires.0 in let a = writing_at c.loop-left.invariant (omega arith) in let s = y.scene.code_short in let m = y.scene.work_long in let k = opened_high c.loop-left.invariant (omega arith) c.if-code-at-lt-PUSHVAR.true in let n = c.loop-left.invariant.ready.long in let q = c.loop-left.invariant.ready.lambdas in let f = c.loop-left.invariant.few in search rules
-
-pub write-bounds-opened-lambdas : goal.write-bounds-opened-lambdas
-write-bounds-opened-lambdas t c = let n = c.loop-left.invariant.ready.long in let q = c.loop-left.invariant.ready.lambdas in let u = length-set c.loop-left.opened (64 + c.loop-left.kept) (c.loop-left.at * 16 + (c.loop-left.left - 1)) in search rules
 
 pub write-inner-lambdas-requires : goal.write-inner-lambdas-requires
 write-inner-lambdas-requires t c = (writing_at c.loop-left.invariant (omega arith), let q = c.loop-left.invariant.ready.lambdas in omega arith)
@@ -127,12 +72,6 @@ write-loop-left-smaller-then-code-at-lt-PUSHVAR t c = let k = opened_high c.loop
 
 pub write-loop-left-preserved-then-code-at-lt-PUSHVAR : goal.write-loop-left-preserved-then-code-at-lt-PUSHVAR
 write-loop-left-preserved-then-code-at-lt-PUSHVAR t c = writing_opened c.loop-left.invariant (omega arith) c.if-code-at-lt-PUSHVAR.true refl c.inner-lambdas.ensures c.arguments-left.ensures c.over-at.ensures
-
-pub write-offset_bounds-work-here : goal.write-offset_bounds-work-here
-write-offset_bounds-work-here t c = let y = ready_of c.args.given.now.known c.args.place.few c.args.place.small c.requires.0 in let a = writing_at c.loop-left.invariant (omega arith) in let s = y.scene.code_short in let m = y.scene.work_long in search rules
-
-pub write-bounds-work-here : goal.write-bounds-work-here
-write-bounds-work-here t c = let y = ready_of c.args.given.now.known c.args.place.few c.args.place.small c.requires.0 in let a = writing_at c.loop-left.invariant (omega arith) in let s = y.scene.code_short in let m = y.scene.work_long in search rules
 
 pub write-write_leaf-to-requires : goal.write-write_leaf-to-requires
 write-write_leaf-to-requires t c = (omega (arith, c.decreases), (going_of c.loop-left.invariant.ready, leaf_room c.loop-left.invariant (omega arith), omega arith))
@@ -167,26 +106,8 @@ write_entry-loop-node-preserved-then-is_free t c = let y = ready_of c.args.given
 pub write_entry-loop-node-preserved : goal.write_entry-loop-node-preserved
 write_entry-loop-node-preserved t c = let y = ready_of c.args.given.now.known c.args.place.few c.args.place.small c.requires.0 in entering_kept y c.loop-node.invariant (omega arith) (sym c.is_free.ensures ∙ c.if-is_free.false) c.put-to.ensures c.put-to.auto.res
 
-pub write_entry-shape_of-res : goal.write_entry-shape_of-res
-write_entry-shape_of-res t c = c.loop-node.invariant.same_length
-
-pub write_entry-shape_of-opened : goal.write_entry-shape_of-opened
-write_entry-shape_of-opened t c = c.loop-node.invariant.opened_long
-
 pub write_entry-returns : goal.write_entry-returns
 write_entry-returns t c = let y = ready_of c.args.given.now.known c.args.place.few c.args.place.small c.requires.0 in (entering_ended y c.loop-node.invariant (omega arith), c.loop-node.invariant.same)
-
-pub write_free-overflow_add-push : goal.write_free-overflow_add-push
-write_free-overflow_add-push t c = let y = ready_of c.args.given.now.known c.args.place.few c.args.place.small c.requires.0 in let r = free_readable c.requires.1.wanted in let s = y.scene.code_short in let f = free_low _ _ c.requires.2.free in let q = y.small in let h = r.within in let d = r.shift in search rules
-
-pub write_free-overflow_add-push-2 : goal.write_free-overflow_add-push-2
-write_free-overflow_add-push-2 t c = let y = ready_of c.args.given.now.known c.args.place.few c.args.place.small c.requires.0 in let r = free_readable c.requires.1.wanted in let s = y.scene.code_short in let f = free_low _ _ c.requires.2.free in let q = y.small in let h = r.within in let d = r.shift in search rules
-
-pub write_free-offset_bounds-code-push : goal.write_free-offset_bounds-code-push
-write_free-offset_bounds-code-push t c = let y = ready_of c.args.given.now.known c.args.place.few c.args.place.small c.requires.0 in let r = free_readable c.requires.1.wanted in let s = y.scene.code_short in let f = free_low _ _ c.requires.2.free in let q = y.small in let h = r.within in let d = r.shift in search rules
-
-pub write_free-bounds-code-push : goal.write_free-bounds-code-push
-write_free-bounds-code-push t c = let y = ready_of c.args.given.now.known c.args.place.few c.args.place.small c.requires.0 in let r = free_readable c.requires.1.wanted in let s = y.scene.code_short in let f = free_low _ _ c.requires.2.free in let q = y.small in let h = r.within in let d = r.shift in search rules
 
 pub write_free-overflow_sub-word : goal.write_free-overflow_sub-word
 write_free-overflow_sub-word t c = let y = ready_of c.args.given.now.known c.args.place.few c.args.place.small c.requires.0 in let r = free_readable c.requires.1.wanted in let s = y.scene.code_short in let f = free_low _ _ c.requires.2.free in let q = y.small in let h = f.1 in search rules
@@ -194,26 +115,11 @@ write_free-overflow_sub-word t c = let y = ready_of c.args.given.now.known c.arg
 pub write_free-find-requires : goal.write_free-find-requires
 write_free-find-requires t c = (free_readable c.requires.1.wanted).bodies
 
-pub write_free-overflow_add-push-in_default : goal.write_free-overflow_add-push-in_default
-write_free-overflow_add-push-in_default t c = let y = ready_of c.args.given.now.known c.args.place.few c.args.place.small c.requires.0 in let r = free_readable c.requires.1.wanted in let s = y.scene.code_short in let f = free_low _ _ c.requires.2.free in let q = y.small in let h = r.within in let d = r.shift in search rules
-
-pub write_free-offset_bounds-code-push-in_default : goal.write_free-offset_bounds-code-push-in_default
-write_free-offset_bounds-code-push-in_default t c = let y = ready_of c.args.given.now.known c.args.place.few c.args.place.small c.requires.0 in let r = free_readable c.requires.1.wanted in let s = y.scene.code_short in let f = free_low _ _ c.requires.2.free in let q = y.small in let h = r.within in let d = r.shift in search rules
-
-pub write_free-bounds-code-push-in_default : goal.write_free-bounds-code-push-in_default
-write_free-bounds-code-push-in_default t c = let y = ready_of c.args.given.now.known c.args.place.few c.args.place.small c.requires.0 in let r = free_readable c.requires.1.wanted in let s = y.scene.code_short in let f = free_low _ _ c.requires.2.free in let q = y.small in let h = r.within in let d = r.shift in search rules
-
-pub write_free-overflow_add-code : goal.write_free-overflow_add-code
-write_free-overflow_add-code t c = let y = ready_of c.args.given.now.known c.args.place.few c.args.place.small c.requires.0 in let r = free_readable c.requires.1.wanted in let s = y.scene.code_short in let f = free_low _ _ c.requires.2.free in let q = y.small in let h = r.within in let d = r.shift in search rules
-
 pub write_free-moved-requires : goal.write_free-moved-requires
 write_free-moved-requires t c = let y = ready_of c.args.given.now.known c.args.place.few c.args.place.small c.requires.0 in let r = free_readable c.requires.1.wanted in let s = y.scene.code_short in let f = free_low _ _ c.requires.2.free in let q = y.small in let h = f.0 in let d = r.shift in omega arith
 
 pub write_free-put-requires : goal.write_free-put-requires
 write_free-put-requires t c = let y = ready_of c.args.given.now.known c.args.place.few c.args.place.small c.requires.0 in (let n = ap length (free_moved (key_missing_lem _ (sym c.find.ensures ∙ c.in_default.is)) _ c.requires.1.wanted) in let f = c.requires.1.fit in omega arith, y.inside)
-
-pub write_free-shape_of-res-in_default : goal.write_free-shape_of-res-in_default
-write_free-shape_of-res-in_default t c = c.put.auto.res
 
 pub write_free-returns-in_default : goal.write_free-returns-in_default
 write_free-returns-in_default t c = (writes_exactly (λ ws x. free_moved (key_missing_lem _ (sym c.find.ensures ∙ c.in_default.is)) ws x ∙ ap (λ y. y ∷ 0 ∷ []) (sym c.moved.ensures)) c.put.ensures, same_none)
@@ -224,32 +130,17 @@ write_free-offset_bounds-work-key t c = let y = ready_of c.args.given.now.known 
 pub write_free-bounds-work-key : goal.write_free-bounds-work-key
 write_free-bounds-work-key t c = let y = ready_of c.args.given.now.known c.args.place.few c.args.place.small c.requires.0 in let v = free_falls c.requires.2 _ (key_found _ _ (sym c.find.ensures ∙ c.in-Some.is)) c.requires.1.wanted in let s = y.scene.code_short in let m = y.scene.work_long in search rules
 
-pub write_free-offset_bounds-code-root : goal.write_free-offset_bounds-code-root
-write_free-offset_bounds-code-root t c = let y = ready_of c.args.given.now.known c.args.place.few c.args.place.small c.requires.0 in let a = tree_root (body_tree y c.requires.2 (key_found _ _ (sym c.find.ensures ∙ c.in-Some.is)) refl _ c.requires.1.wanted) in let s = y.scene.code_short in search rules
-
 pub write_free-bounds-code-root : goal.write_free-bounds-code-root
 write_free-bounds-code-root t c = let y = ready_of c.args.given.now.known c.args.place.few c.args.place.small c.requires.0 in let a = tree_root (body_tree y c.requires.2 (key_found _ _ (sym c.find.ensures ∙ c.in-Some.is)) refl _ c.requires.1.wanted) in let s = y.scene.code_short in search rules
 
-pub write_free-overflow_add-root : goal.write_free-overflow_add-root
-write_free-overflow_add-root t c = let y = ready_of c.args.given.now.known c.args.place.few c.args.place.small c.requires.0 in let b = (tree_bound c.if-code-root-eq-PUSHVAR.true (body_tree y c.requires.2 (key_found _ _ (sym c.find.ensures ∙ c.in-Some.is)) refl _ c.requires.1.wanted)).within in let s = y.scene.code_short in search rules
-
-pub write_free-offset_bounds-code-root-then-code-root-eq-PUSHVAR : goal.write_free-offset_bounds-code-root-then-code-root-eq-PUSHVAR
-write_free-offset_bounds-code-root-then-code-root-eq-PUSHVAR t c = let y = ready_of c.args.given.now.known c.args.place.few c.args.place.small c.requires.0 in let b = (tree_bound c.if-code-root-eq-PUSHVAR.true (body_tree y c.requires.2 (key_found _ _ (sym c.find.ensures ∙ c.in-Some.is)) refl _ c.requires.1.wanted)).within in let s = y.scene.code_short in search rules
-
 pub write_free-bounds-code-root-then-code-root-eq-PUSHVAR : goal.write_free-bounds-code-root-then-code-root-eq-PUSHVAR
 write_free-bounds-code-root-then-code-root-eq-PUSHVAR t c = let y = ready_of c.args.given.now.known c.args.place.few c.args.place.small c.requires.0 in let b = (tree_bound c.if-code-root-eq-PUSHVAR.true (body_tree y c.requires.2 (key_found _ _ (sym c.find.ensures ∙ c.in-Some.is)) refl _ c.requires.1.wanted)).within in let s = y.scene.code_short in search rules
-
-pub write_free-overflow_add-offset : goal.write_free-overflow_add-offset
-write_free-overflow_add-offset t c = let y = ready_of c.args.given.now.known c.args.place.few c.args.place.small c.requires.0 in let v = free_falls c.requires.2 _ (key_found _ _ (sym c.find.ensures ∙ c.in-Some.is)) c.requires.1.wanted in let s = y.scene.code_short in let m = y.scene.work_long in let q = y.small in let i = c.requires.2.shallow in search rules
 
 pub write_free-bound-index-requires : goal.write_free-bound-index-requires
 write_free-bound-index-requires t c = let y = ready_of c.args.given.now.known c.args.place.few c.args.place.small c.requires.0 in ready_bound (body_ready y c.requires.2 (key_found _ _ (sym c.find.ensures ∙ c.in-Some.is)) (omega arith) c.requires.1.wanted) (tree_bound c.if-code-root-eq-PUSHVAR.true (body_tree y c.requires.2 (key_found _ _ (sym c.find.ensures ∙ c.in-Some.is)) refl _ c.requires.1.wanted)).low
 
 pub write_free-put-requires-then-code-root-eq-PUSHVAR : goal.write_free-put-requires-then-code-root-eq-PUSHVAR
 write_free-put-requires-then-code-root-eq-PUSHVAR t c = let y = ready_of c.args.given.now.known c.args.place.few c.args.place.small c.requires.0 in (bound_fits c.args.opened.now c.if-code-root-eq-PUSHVAR.true (room_from (body_tree y c.requires.2 (key_found _ _ (sym c.find.ensures ∙ c.in-Some.is)) refl) c.requires.1), y.inside)
-
-pub write_free-shape_of-res-then-code-root-eq-PUSHVAR : goal.write_free-shape_of-res-then-code-root-eq-PUSHVAR
-write_free-shape_of-res-then-code-root-eq-PUSHVAR t c = c.put-then-code-root-eq-PUSHVAR.auto.res
 
 pub write_free-returns-then-code-root-eq-PUSHVAR : goal.write_free-returns-then-code-root-eq-PUSHVAR
 write_free-returns-then-code-root-eq-PUSHVAR t c = let y = ready_of c.args.given.now.known c.args.place.few c.args.place.small c.requires.0 in (writes_from (body_tree y c.requires.2 (key_found _ _ (sym c.find.ensures ∙ c.in-Some.is)) refl) (bound_written c.args.opened.now c.if-code-root-eq-PUSHVAR.true c.bound-index.ensures c.put-then-code-root-eq-PUSHVAR.ensures), same_none)
@@ -263,9 +154,6 @@ write_free-head-requires t c = let y = ready_of c.args.given.now.known c.args.pl
 pub write_free-put-requires-then-is_constant : goal.write_free-put-requires-then-is_constant
 write_free-put-requires-then-is_constant t c = let y = ready_of c.args.given.now.known c.args.place.few c.args.place.small c.requires.0 in (constant_fits c.args.opened.now (sym c.is_constant.ensures ∙ c.if-is_constant.true) (let n = y.long in let k = y.lambdas in omega arith) (room_from (body_tree y c.requires.2 (key_found _ _ (sym c.find.ensures ∙ c.in-Some.is)) refl) c.requires.1), y.inside)
 
-pub write_free-shape_of-res-then-is_constant : goal.write_free-shape_of-res-then-is_constant
-write_free-shape_of-res-then-is_constant t c = c.put-then-is_constant.auto.res
-
 pub write_free-returns-then-is_constant : goal.write_free-returns-then-is_constant
 write_free-returns-then-is_constant t c = let y = ready_of c.args.given.now.known c.args.place.few c.args.place.small c.requires.0 in (writes_from (body_tree y c.requires.2 (key_found _ _ (sym c.find.ensures ∙ c.in-Some.is)) refl) (constant_written c.args.opened.now (sym c.is_constant.ensures ∙ c.if-is_constant.true) (let n = y.long in let k = y.lambdas in omega arith) c.head.ensures c.put-then-is_constant.ensures), same_none)
 
@@ -278,47 +166,23 @@ write_free-offset_bounds-code-key t c = let y = ready_of c.args.given.now.known 
 pub write_free-bounds-code-key : goal.write_free-bounds-code-key
 write_free-bounds-code-key t c = let y = ready_of c.args.given.now.known c.args.place.few c.args.place.small c.requires.0 in let v = free_falls c.requires.2 _ (key_found _ _ (sym c.find.ensures ∙ c.in-Some.is)) c.requires.1.wanted in let s = y.scene.code_short in let m = y.scene.work_long in let q = y.small in let i = c.requires.2.shallow in search rules
 
-pub write_free-overflow_cast-under : goal.write_free-overflow_cast-under
-write_free-overflow_cast-under t c = let y = ready_of c.args.given.now.known c.args.place.few c.args.place.small c.requires.0 in let v = free_falls c.requires.2 _ (key_found _ _ (sym c.find.ensures ∙ c.in-Some.is)) c.requires.1.wanted in let s = y.scene.code_short in let m = y.scene.work_long in let q = y.small in let i = c.requires.2.shallow in search rules
-
 pub write_free-invariant_of-under : goal.write_free-invariant_of-under
 write_free-invariant_of-under t c = let y = ready_of c.args.given.now.known c.args.place.few c.args.place.small c.requires.0 in let b = body_ready y c.requires.2 (key_found _ _ (sym c.find.ensures ∙ c.in-Some.is)) refl c.requires.1.wanted in record { few = b.lambdas; small = b.small }
 
 pub write_free-write-requires : goal.write_free-write-requires
 write_free-write-requires t c = let y = ready_of c.args.given.now.known c.args.place.few c.args.place.small c.requires.0 in let v = free_falls c.requires.2 _ (key_found _ _ (sym c.find.ensures ∙ c.in-Some.is)) c.requires.1.wanted in (omega (arith, v.1, c.decreases), (going_of (body_ready y c.requires.2 (key_found _ _ (sym c.find.ensures ∙ c.in-Some.is)) refl c.requires.1.wanted), room_from (body_tree y c.requires.2 (key_found _ _ (sym c.find.ensures ∙ c.in-Some.is)) (omega arith)) c.requires.1))
 
-pub write_free-shape_of-res : goal.write_free-shape_of-res
-write_free-shape_of-res t c = c.write.auto.res
-
-pub write_free-shape_of-opened : goal.write_free-shape_of-opened
-write_free-shape_of-opened t c = c.write.auto.opened
-
 pub write_free-returns : goal.write_free-returns
 write_free-returns t c = let y = ready_of c.args.given.now.known c.args.place.few c.args.place.small c.requires.0 in (writes_from (body_tree y c.requires.2 (key_found _ _ (sym c.find.ensures ∙ c.in-Some.is)) (omega arith)) c.write.ensures.0, c.write.ensures.1)
 
-pub write_leaf-overflow_add-operand : goal.write_leaf-overflow_add-operand
-write_leaf-overflow_add-operand t c = let y = ready_of c.args.given.now.known c.args.place.few c.args.place.small c.requires.0 in let a = leaf_within c.requires.2 c.requires.1.wanted in let s = y.scene.code_short in let m = y.scene.work_long in search rules
-
-pub write_leaf-offset_bounds-code-at : goal.write_leaf-offset_bounds-code-at
-write_leaf-offset_bounds-code-at t c = let y = ready_of c.args.given.now.known c.args.place.few c.args.place.small c.requires.0 in let a = leaf_within c.requires.2 c.requires.1.wanted in let s = y.scene.code_short in let m = y.scene.work_long in search rules
-
 pub write_leaf-bounds-code-at : goal.write_leaf-bounds-code-at
 write_leaf-bounds-code-at t c = let y = ready_of c.args.given.now.known c.args.place.few c.args.place.small c.requires.0 in let a = leaf_within c.requires.2 c.requires.1.wanted in let s = y.scene.code_short in let m = y.scene.work_long in search rules
-
-pub write_leaf-offset_bounds-code-at-2 : goal.write_leaf-offset_bounds-code-at-2
-write_leaf-offset_bounds-code-at-2 t c = let y = ready_of c.args.given.now.known c.args.place.few c.args.place.small c.requires.0 in let a = leaf_within c.requires.2 c.requires.1.wanted in let s = y.scene.code_short in let m = y.scene.work_long in search rules
-
-pub write_leaf-bounds-code-at-2 : goal.write_leaf-bounds-code-at-2
-write_leaf-bounds-code-at-2 t c = let y = ready_of c.args.given.now.known c.args.place.few c.args.place.small c.requires.0 in let a = leaf_within c.requires.2 c.requires.1.wanted in let s = y.scene.code_short in let m = y.scene.work_long in search rules
 
 pub write_leaf-bound-requires : goal.write_leaf-bound-requires
 write_leaf-bound-requires t c = let y = ready_of c.args.given.now.known c.args.place.few c.args.place.small c.requires.0 in ready_bound y (tree_bound c.if-code-at-eq-PUSHVAR.true c.requires.1.wanted).low
 
 pub write_leaf-put-requires : goal.write_leaf-put-requires
 write_leaf-put-requires t c = let y = ready_of c.args.given.now.known c.args.place.few c.args.place.small c.requires.0 in (bound_fits c.args.opened.now c.if-code-at-eq-PUSHVAR.true c.requires.1, y.inside)
-
-pub write_leaf-shape_of-res-then-code-at-eq-PUSHVAR : goal.write_leaf-shape_of-res-then-code-at-eq-PUSHVAR
-write_leaf-shape_of-res-then-code-at-eq-PUSHVAR t c = c.put.auto.res
 
 pub write_leaf-returns-then-code-at-eq-PUSHVAR : goal.write_leaf-returns-then-code-at-eq-PUSHVAR
 write_leaf-returns-then-code-at-eq-PUSHVAR t c = (bound_written c.args.opened.now c.if-code-at-eq-PUSHVAR.true c.bound.ensures c.put.ensures, same_none)
@@ -344,23 +208,8 @@ write_leaf-moves_nothing-requires t c = let y = ready_of c.args.given.now.known 
 pub write_leaf-copy-requires : goal.write_leaf-copy-requires
 write_leaf-copy-requires t c = let y = ready_of c.args.given.now.known c.args.place.few c.args.place.small c.requires.0 in (let n = ap length (copied_words c.requires.2 c.if-code-at-eq-PUSHVAR.false y.scene (sym c.moves_nothing.ensures ∙ c.if-moves_nothing.true) _ _ c.entry-first.ensures refl _ c.requires.1.wanted) in let f = c.requires.1.fit in omega arith, y.inside)
 
-pub write_leaf-shape_of-res-then-moves_nothing : goal.write_leaf-shape_of-res-then-moves_nothing
-write_leaf-shape_of-res-then-moves_nothing t c = c.copy.auto.res
-
 pub write_leaf-returns-then-moves_nothing : goal.write_leaf-returns-then-moves_nothing
 write_leaf-returns-then-moves_nothing t c = let y = ready_of c.args.given.now.known c.args.place.few c.args.place.small c.requires.0 in (writes_exactly (copied_words c.requires.2 c.if-code-at-eq-PUSHVAR.false y.scene (sym c.moves_nothing.ensures ∙ c.if-moves_nothing.true) _ _ c.entry-first.ensures refl) c.copy.ensures, same_none)
 
-pub write_leaf-overflow_add-first : goal.write_leaf-overflow_add-first
-write_leaf-overflow_add-first t c = let y = ready_of c.args.given.now.known c.args.place.few c.args.place.small c.requires.0 in let n = tree_named c.requires.2 c.if-code-at-eq-PUSHVAR.false c.requires.1.wanted in let v = named_part y.scene n in let e = c.entry-first.ensures in let f = y.scene.few in search rules
-
 pub write_leaf-write_entry-requires : goal.write_leaf-write_entry-requires
 write_leaf-write_entry-requires t c = (omega (arith, c.decreases), (c.requires.0, c.requires.1, (tree_pushed c.requires.2 c.if-code-at-eq-PUSHVAR.false c.requires.1.wanted (moves_pushed _ _ _ (sym c.if-moves_nothing.false ∙ c.moves_nothing.ensures))).op, entry_part c.entry-first.ensures))
-
-pub write_leaf-shape_of-res : goal.write_leaf-shape_of-res
-write_leaf-shape_of-res t c = c.write_entry.auto.res
-
-pub write_leaf-shape_of-opened : goal.write_leaf-shape_of-opened
-write_leaf-shape_of-opened t c = c.write_entry.auto.opened
-
-pub write_leaf-returns : goal.write_leaf-returns
-write_leaf-returns t c = c.write_entry.ensures
