@@ -18,6 +18,7 @@ use tables::node::MOST_ARGUMENTS;
 use turns::entries::{Entries, Entry};
 
 // How instructions ended that made one term: at an ADBMAL, with the place behind it, or with their words.
+// Kept (point 1): both are ends that a caller may want, and neither is a missing one, so an Option's names would say less.
 #[derive(Clone, Copy)]
 pub enum Ended {
     Shut(usize),
