@@ -6,6 +6,10 @@ use mathlib.Core.Bool.{Bool, true, false}
 use mathlib.Core.List.{List}
 use lib.ListN.{length, get_or, drop}
 use lib.Seq.{get_or-drop}
+use Rattle.tables.specs.declared.walk.Node.{Node}
+use Rattle.tables.specs.declared.walk.Nodes.{Nodes}
+use Rattle.tables.specs.Parts.{Begins}
+use Rattle.tables.specs.Nodes.{Stands, starts, node_gives}
 use Rattle.tables.proofs.Walks.{walking_on}
 use Rattle.links.specs.Links.{capped}
 use Rattle.links.specs.Nodewise.{is_free, levels_in, inside_of}
@@ -16,6 +20,27 @@ use Rattle.measurer.specs.Measuring.{Kept, push_end, Spreading, Spreads, Free, F
 use Rattle.measurer.proofs.Kept.{kept_then}
 use Rattle.measurer.proofs.Answering.{frees_of, frees_large}
 use Rattle.measurer.proofs.Spreading.{Spanned, span_from, node_place, place_bounds, place_room, span_on, span_free, span_large, span_larger, span_met, all, en}
+
+-- where the walk of its nodes stands
+pub record At (part : List ℕ) (nodes : ℕ) (s : Nodes) : Type 0 where
+  pub same : s.part.now ≡ part
+  pub place : s.at ≡ 2 * nodes
+
+pub stands_first : (part : List ℕ) (s : Nodes) → Begins 1 part → starts part s → Stands s
+stands_first part s h b = rw (b.0, b.1, b.2) (h, omega arith)
+
+pub at_first : {part : List ℕ} {s : Nodes} → starts part s → At part 0 s
+at_first b = record { same = b.0; place = b.1 }
+
+module _ {part : List ℕ} {nodes : ℕ} {s : Nodes} (t : Nodes) (n : Node) (w : At part nodes s) (g : node_gives s (Some n) t) where
+  pub word_is : n.word ≡ get_or part (2 * nodes) 0
+  word_is = g.1.1 ∙ ap₂ (λ (l : List ℕ) (i : ℕ). get_or l i 0) w.same w.place
+
+  pub owed_is : t.owed ≡ s.owed - 1 + get_or part (2 * nodes + 1) 0
+  owed_is = g.1.5 ∙ ap (λ (k : ℕ). s.owed - 1 + k) (g.1.2 ∙ ap₂ (λ (l : List ℕ) (i : ℕ). get_or l (i + 1) 0) w.same w.place)
+
+  pub at_next : At part (nodes + 1) t
+  at_next = record { same = rw g.0 w.same; place = let a = g.1.4 in let b = w.place in omega arith }
 
 module _ {code : List ℕ} {push c D : ℕ} {part : List ℕ} {places : ℕ} {subject entries work₀ : List ℕ} {most : ℕ}
     (sp : Spreading code push c D part places subject entries work₀ most) where

@@ -15,6 +15,7 @@ use links::link::{Link, Note};
 use links::variable::{is_free, moved};
 use links::{LEVEL, NODES_AT};
 use tables::compare::D_SHIFT;
+use tables::walk::Nodes;
 
 pub mod walk; // what a result is measured from
 
@@ -180,21 +181,17 @@ fn spread(walk: &Walk, push: Push, part: &[u32], places: usize, work: &mut [u32]
     ensures { Spreads walk.now.given.code.now push.at push.count push.shift part.now places walk.now.given.subject.now walk.now.given.entries.now work.old work.new walk.now.most result }
 {
     let root = work[places];
-    let mut owed: usize = 1;
-    let mut node: usize = 0;
+    let mut nodes: usize = 0;
     let mut more: usize = 0;
     let mut highest: u32 = 0;
     let mut deepest: u32 = 0;
     let mut farthest: u32 = 0;
-    // Kept (point 3): how many nodes an entry has is what the walk finds out, so no range or part has them.
-    while 0 < owed {
-        let word = part[2 * node];
-        let here = work[places + node] - root;
-        owed = owed - 1 + part[2 * node + 1] as usize;
-        node += 1;
+    for node in Nodes::of(part) {
+        let here = work[places + nodes] - root;
+        nodes += 1;
         highest = highest.max(here);
-        if is_free(word, here % LEVEL) {
-            let span = free(walk, push, word, here % LEVEL, work)?;
+        if is_free(node.word, here % LEVEL) {
+            let span = free(walk, push, node.word, here % LEVEL, work)?;
             more += span.nodes - 1;
             if walk.most < more {
                 return None;
@@ -203,9 +200,9 @@ fn spread(walk: &Walk, push: Push, part: &[u32], places: usize, work: &mut [u32]
             farthest = farthest.max(span.reach);
         }
     }
-    work[push.at + 1] = (2 * (places - NODES_AT + node)) as u32;
+    work[push.at + 1] = (2 * (places - NODES_AT + nodes)) as u32;
     Some(Span {
-        nodes: node + more,
+        nodes: nodes + more,
         depth: deepest.max(highest / LEVEL + 1).min(OVER_DEPTH),
         reach: farthest,
     })

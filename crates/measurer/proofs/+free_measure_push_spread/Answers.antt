@@ -1,5 +1,6 @@
+use Rattle.tables.specs.Nodes.{starts}
 use Rattle.tables.proofs.Parts.{from_drop}
-use Rattle.measurer.proofs.Walked.{root_room, not_below, free_here, large_here, larger_here, met_on, pass_on, end_small}
+use Rattle.measurer.proofs.Walked.{stands_first, at_first, word_is, owed_is, at_next, root_room, not_below, free_here, large_here, larger_here, met_on, pass_on, end_small}
 use Rattle.trees.specs.Trees.{further}
 use Rattle.links.proofs.Keyed.{bodied_readable}
 use Rattle.measurer.proofs.Answering.{measures_of, measures_large, pushes_of, pushes_large, spreads_are, meets_too_large, small_reach, noted_small, end_answer, full_answer, plain_pre, growing_plain, push_answer, over_answer, growing_at, push_falls, next_pre}
@@ -9,7 +10,7 @@ use Prim.Native.Nat.{◌+◌, ◌/◌}
 use lib.ListN.{length, drop}
 use Rattle.measurer.proofs.Asking.{sequence_of, push_of, spreading_of, free_of, asks_sequence, asks_push, asks_spread, asks_free}
 use Rattle.measurer.proofs.Growing.{growing_from, growing_lambda, pushable}
-use Rattle.measurer.proofs.Spreading.{span_from, span_end}
+use Rattle.measurer.proofs.Spreading.{en, span_from, span_end}
 use Rattle.measurer.proofs.Meeting.{meets_none, key_in, key_long, body_end_lem, body_low, body_sequence, noted, noted_root, meets_before, root_small, note_room, depth_room, meets_now}
 use Rattle.measurer.proofs.Pushing.{first_low, whole_spreading, whole_pushes, whole_large, bodies_read, push_spreading, push_pushes, whole_falls, bodies_fall}
 use borrow.Author.Rules.{rules}
@@ -163,32 +164,38 @@ spread-offset_bounds-work-places t c = let q = spreading_of c.args.walk.now.give
 pub spread-bounds-work-places : goal.spread-bounds-work-places
 spread-bounds-work-places t c = let q = spreading_of c.args.walk.now.given.known c.args.walk.now.few c.args.push.low c.requires in root_room q
 
-pub spread-loop-owed-init : goal.spread-loop-owed-init
-spread-loop-owed-init t c = let q = spreading_of c.args.walk.now.given.known c.args.walk.now.few c.args.push.low c.requires in (span_from q, refl)
+pub spread-of-node-items-requires : goal.spread-of-node-items-requires
+spread-of-node-items-requires t c = let q = spreading_of c.args.walk.now.given.known c.args.walk.now.few c.args.push.low c.requires in rw q.part_is (en q).begins
+
+pub spread-loop-node-init-derived : goal.spread-loop-node-init-derived
+spread-loop-node-init-derived t c = let q = spreading_of c.args.walk.now.given.known c.args.walk.now.few c.args.push.low c.requires in let b : starts c.args.part.now c.into_iter-node-iterator.result = rw c.into_iter-node-iterator.ensures.into_iter_gives c.of-node-items.ensures in (stands_first c.args.part.now c.into_iter-node-iterator.result (rw q.part_is (en q).begins) b, tt)
+
+pub spread-loop-node-init : goal.spread-loop-node-init
+spread-loop-node-init t c = let q = spreading_of c.args.walk.now.given.known c.args.walk.now.few c.args.push.low c.requires in let b : starts c.args.part.now c.into_iter-node-iterator.result = rw c.into_iter-node-iterator.ensures.into_iter_gives c.of-node-items.ensures in (rw b.2 (span_from q), refl, at_first b)
 
 pub spread-overflow_sub-here : goal.spread-overflow_sub-here
-spread-overflow_sub-here t c = let q = spreading_of c.args.walk.now.given.known c.args.walk.now.few c.args.push.low c.requires in let k = not_below q c.loop-owed.invariant.0 c.loop-owed.invariant.1 c.loop-owed-test.true in search rules
+spread-overflow_sub-here t c = let q = spreading_of c.args.walk.now.given.known c.args.walk.now.few c.args.push.low c.requires in let i = c.loop-node.invariant in let g = c.in-Some.ensures.steps in let lo = g.1.0 in let k = not_below q i.0 i.1 lo in search rules
 
 pub spread-free-requires : goal.spread-free-requires
-spread-free-requires t c = let q = spreading_of c.args.walk.now.given.known c.args.walk.now.few c.args.push.low c.requires in ((let m = c.decreases in omega arith), asks_free (free_here q c.loop-owed.invariant.0 c.loop-owed.invariant.1 c.loop-owed-test.true c.is_free.ensures c.if-is_free.true))
+spread-free-requires t c = let q = spreading_of c.args.walk.now.given.known c.args.walk.now.few c.args.push.low c.requires in let i = c.loop-node.invariant in let g = c.in-Some.ensures.steps in let lo = g.1.0 in let w = word_is _ c.in-Some.node i.2 g in let f = rw w at c.is_free.ensures in ((let m = c.decreases in omega arith), rw w (asks_free (free_here q i.0 i.1 lo f c.if-is_free.true)))
 
 pub spread-returns-in_err-span : goal.spread-returns-in_err-span
-spread-returns-in_err-span t c = let q = spreading_of c.args.walk.now.given.known c.args.walk.now.few c.args.push.low c.requires in rw c.from_residual.ensures (large_here q c.loop-owed.invariant.0 c.loop-owed.invariant.1 c.loop-owed-test.true c.is_free.ensures c.if-is_free.true c.free.ensures c.in_err-span.was)
+spread-returns-in_err-span t c = let q = spreading_of c.args.walk.now.given.known c.args.walk.now.few c.args.push.low c.requires in let i = c.loop-node.invariant in let g = c.in-Some.ensures.steps in let lo = g.1.0 in let w = word_is _ c.in-Some.node i.2 g in let f = rw w at c.is_free.ensures in rw c.from_residual.ensures (large_here q i.0 i.1 lo f c.if-is_free.true (rw w at c.free.ensures) c.in_err-span.was)
 
 pub spread-returns-then-walk-more : goal.spread-returns-then-walk-more
-spread-returns-then-walk-more t c = let q = spreading_of c.args.walk.now.given.known c.args.walk.now.few c.args.push.low c.requires in larger_here q c.loop-owed.invariant.0 c.loop-owed.invariant.1 c.loop-owed-test.true c.is_free.ensures c.if-is_free.true c.free.ensures c.in_ok-span.was c.if-walk-more.true
+spread-returns-then-walk-more t c = let q = spreading_of c.args.walk.now.given.known c.args.walk.now.few c.args.push.low c.requires in let i = c.loop-node.invariant in let g = c.in-Some.ensures.steps in let lo = g.1.0 in let w = word_is _ c.in-Some.node i.2 g in let f = rw w at c.is_free.ensures in larger_here q i.0 i.1 lo f c.if-is_free.true (rw w at c.free.ensures) c.in_ok-span.was c.if-walk-more.true
 
-pub spread-loop-owed-preserved-then-is_free : goal.spread-loop-owed-preserved-then-is_free
-spread-loop-owed-preserved-then-is_free t c = let q = spreading_of c.args.walk.now.given.known c.args.walk.now.few c.args.push.low c.requires in (met_on q c.loop-owed.invariant.0 c.loop-owed.invariant.1 c.loop-owed-test.true c.is_free.ensures c.if-is_free.true c.free.ensures c.in_ok-span.was (let h = c.if-walk-more.false in omega arith) c.max-highest.ensures c.max-deepest.ensures c.max-farthest.ensures, c.loop-owed.invariant.1)
+pub spread-loop-node-preserved-then-is_free : goal.spread-loop-node-preserved-then-is_free
+spread-loop-node-preserved-then-is_free t c = let q = spreading_of c.args.walk.now.given.known c.args.walk.now.few c.args.push.low c.requires in let i = c.loop-node.invariant in let g = c.in-Some.ensures.steps in let lo = g.1.0 in let w = word_is _ c.in-Some.node i.2 g in let f = rw w at c.is_free.ensures in let o = owed_is _ c.in-Some.node i.2 g in (rw o (met_on q i.0 i.1 lo f c.if-is_free.true (rw w at c.free.ensures) c.in_ok-span.was (let h = c.if-walk-more.false in omega arith) c.max-highest.ensures c.max-deepest.ensures c.max-farthest.ensures), i.1, at_next _ c.in-Some.node i.2 g)
 
-pub spread-loop-owed-preserved : goal.spread-loop-owed-preserved
-spread-loop-owed-preserved t c = let q = spreading_of c.args.walk.now.given.known c.args.walk.now.few c.args.push.low c.requires in (pass_on q c.loop-owed.invariant.0 c.loop-owed.invariant.1 c.loop-owed-test.true c.is_free.ensures c.if-is_free.false c.max-highest.ensures, c.loop-owed.invariant.1)
+pub spread-loop-node-preserved : goal.spread-loop-node-preserved
+spread-loop-node-preserved t c = let q = spreading_of c.args.walk.now.given.known c.args.walk.now.few c.args.push.low c.requires in let i = c.loop-node.invariant in let g = c.in-Some.ensures.steps in let lo = g.1.0 in let w = word_is _ c.in-Some.node i.2 g in let f = rw w at c.is_free.ensures in let o = owed_is _ c.in-Some.node i.2 g in (rw o (pass_on q i.0 i.1 lo f c.if-is_free.false c.max-highest.ensures), i.1, at_next _ c.in-Some.node i.2 g)
 
 pub spread-overflow_mul-work : goal.spread-overflow_mul-work
-spread-overflow_mul-work t c = let q = spreading_of c.args.walk.now.given.known c.args.walk.now.few c.args.push.low c.requires in let e = end_small q c.loop-owed.invariant.0 (omega arith) in let a = e.0 in let b = e.1 in search rules
+spread-overflow_mul-work t c = let q = spreading_of c.args.walk.now.given.known c.args.walk.now.few c.args.push.low c.requires in let e = end_small q c.loop-node.invariant.0 (omega (arith, c.in-None.ensures.steps)) in let a = e.0 in let b = e.1 in search rules
 
 pub spread-overflow_cast-work : goal.spread-overflow_cast-work
-spread-overflow_cast-work t c = let q = spreading_of c.args.walk.now.given.known c.args.walk.now.few c.args.push.low c.requires in let e = end_small q c.loop-owed.invariant.0 (omega arith) in let a = e.0 in let b = e.1 in search rules
+spread-overflow_cast-work t c = let q = spreading_of c.args.walk.now.given.known c.args.walk.now.few c.args.push.low c.requires in let e = end_small q c.loop-node.invariant.0 (omega (arith, c.in-None.ensures.steps)) in let a = e.0 in let b = e.1 in search rules
 
 pub spread-returns : goal.spread-returns
-spread-returns t c = let q = spreading_of c.args.walk.now.given.known c.args.walk.now.few c.args.push.low c.requires in span_end q c.loop-owed.invariant.0 (omega arith) refl refl c.max.ensures c.min.ensures
+spread-returns t c = let q = spreading_of c.args.walk.now.given.known c.args.walk.now.few c.args.push.low c.requires in span_end q c.loop-node.invariant.0 (omega (arith, c.in-None.ensures.steps)) refl refl c.max.ensures c.min.ensures

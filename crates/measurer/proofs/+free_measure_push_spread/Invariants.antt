@@ -2,11 +2,12 @@
 -- one another, the words of the code falling.
 use mathlib.Core.Path.{◌≡◌}
 use Prim.Native.Nat.{◌+◌, ◌-◌, ◌*◌}
-use lib.ListN.{length, get_or}
+use lib.ListN.{get_or}
 use Rattle.measurer.specs.Linking.{place_next}
 use Rattle.measurer.specs.Measuring.{push_end}
 use Rattle.measurer.proofs.Growing.{Growing}
 use Rattle.measurer.proofs.Spreading.{Spanned}
+use Rattle.measurer.proofs.Walked.{At}
 use Rattle.measurer.proofs.+free_measure_push_spread.Given as goal
 
 abbrev pub decreases-free : goal.decreases-free
@@ -27,8 +28,7 @@ invariant-measure-loop-at l = Growing l.walk.given.code.now l.walk.given.subject
 abbrev pub decreases-measure-loop-at : goal.decreases-measure-loop-at
 decreases-measure-loop-at l = l.end - l.at
 
-abbrev pub invariant-spread-loop-owed : goal.invariant-spread-loop-owed
-invariant-spread-loop-owed l = Spanned l.walk.given.code.now l.push.at l.push.count l.push.shift l.part l.places l.walk.given.subject.now l.walk.given.entries.now l.initial.work l.walk.most l.work l.owed l.node l.more l.highest l.deepest l.farthest × (l.root ≡ get_or l.initial.work l.places 0)
-
-abbrev pub decreases-spread-loop-owed : goal.decreases-spread-loop-owed
-decreases-spread-loop-owed l = length l.part - 2 * l.node
+abbrev pub invariant-spread-loop-node : goal.invariant-spread-loop-node
+invariant-spread-loop-node l =
+    Spanned l.walk.given.code.now l.push.at l.push.count l.push.shift l.part l.places l.walk.given.subject.now l.walk.given.entries.now l.initial.work l.walk.most l.work l.node-iterator.owed l.nodes l.more l.highest l.deepest l.farthest
+    × (l.root ≡ get_or l.initial.work l.places 0) × At l.part l.nodes l.node-iterator
