@@ -4,7 +4,7 @@ use Prim.Native.Nat.{ℕ, ◌+◌, ◌-◌, ◌*◌, ◌/◌, ◌%◌, ◌≤◌
 use native.Mathlib.Numerals.{add-one}
 use native.Mathlib.Omega.{arith}
 use mathlib.Core.List.{List, [], ◌∷◌, ◌++◌}
-use lib.ListN.{length, take, drop, get_or, set, length-set, length-append, length-take, drop_of_length-le}
+use lib.ListN.{length, drop, get_or, set, length-append}
 use lib.Seq.{sets, length-sets, drop-cons, length-take-le}
 use Rattle.documents.proofs.Lists.{sets_append}
 use Rattle.plan.specs.Line.{decimal, behind, line_of, Wrote, Counts}
@@ -33,18 +33,12 @@ number_more {mid = mid} {last = last} n h w = rw (decimal_more n h) (wrote_then 
 
 -- ---- The numbers behind it
 
-pub next_number : {old new : List ℕ} {at next : ℕ} (n : ℕ) → Wrote (set old at 32) new (at + 1) next (decimal n) → Wrote old new at next (32 ∷ decimal n)
-next_number {old} {at = at} n w = wrote_then (wrote_byte old at 32) w
-
 -- the first i words are written; the others, written from `end` on, make the line that was asked for
 pub record Rest (words old : List ℕ) (at : ℕ) (new : List ℕ) (end i : ℕ) : Type 0 where
   pub line : sets new end (behind (drop i words)) ≡ sets old at (behind words)
   pub ends : end + length (behind (drop i words)) ≡ at + length (behind words)
   pub size : length new ≡ length old
   pub room : end + 11 * (length words - i) + 1 ≤ length new
-
-pub rest_from : (words old : List ℕ) (at : ℕ) → at + 11 * length words + 1 ≤ length old → Rest words old at old at 0
-rest_from words old at h = record { line = refl; ends = refl; size = refl; room = omega arith }
 
 module _ {words old : List ℕ} {at : ℕ} {new : List ℕ} {end i : ℕ} (r : Rest words old at new end i) where
   pub rest_on : {newer : List ℕ} {next : ℕ} → i < length words → get_or words i 0 < 4294967296 → Wrote new newer end next (32 ∷ decimal (get_or words i 0)) → Rest words old at newer next (i + 1)
@@ -64,23 +58,12 @@ module _ {words old : List ℕ} {at : ℕ} {new : List ℕ} {end i : ℕ} (r : R
         room = omega arith;
       }
 
-  pub rest_done : length words ≤ i → Wrote old (set new end 10) at (end + 1) (behind words) × (end + 1 ≤ length (set new end 10))
-  rest_done h =
-      let d : behind (drop i words) ≡ 10 ∷ [] = rw (drop_of_length-le words h) in (
-        record { line = ap (λ (l : List ℕ). sets new end l) (sym d) ∙ r.line; place = omega (arith, r.ends, ap (λ (l : List ℕ). length l) d) },
-        omega (arith, r.room, length-set new end 10),
-      )
-
 -- ---- The line
 
 pub wrote_line : {old a b new : List ℕ} {j k next : ℕ} (number count : ℕ) (words : List ℕ)
     → Wrote old a 0 j (decimal number) → Wrote a b j k (32 ∷ decimal count) → Wrote b new k next (behind words) → Wrote old new 0 next (line_of (number ∷ count ∷ words))
 unfolding line_of
 wrote_line number count words u v w = wrote_then u (wrote_then v w)
-
--- 11 bytes a number, for so many words at the front of a table
-pub line_room : (n : ℕ) (table line : List ℕ) → n ≤ 8192 → length line ≡ 90134 → 11 * (2 + length (take n table)) ≤ length line
-line_room n table line h l = omega (arith, length-take n table)
 
 -- the same numbers, and the part of the bytes that they fill
 pub line_counts : {old new : List ℕ} {next : ℕ} {ns : List ℕ} (ms : List ℕ) → ns ≡ ms → Wrote old new 0 next (line_of ns) × (next ≤ length new) → Wrote old new 0 next (line_of ms) × Counts next new

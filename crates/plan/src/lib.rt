@@ -4,16 +4,17 @@
 pub mod line; // numbers in decimal
 
 ghost use Rattle.std.specs.Prelude.{◌≡◌};
-ghost use Rattle.documents.specs.Calls.{read_call, compile_call, plan_apply};
+ghost use Rattle.documents.specs.Calls.{read_call, plan_apply};
 ghost use Rattle.plan.specs.Line.{line_of, Wrote, Counts};
-ghost use Rattle.plan.specs.Program.{told, after_compile, planned, Leaves};
+ghost use Rattle.plan.specs.Program.{told, planned, Leaves};
 
 use crate::line::{NUMBER_BYTES, put_line};
-use answers::{DONE, ReedAnswer};
+use answers::ReedAnswer;
+use compiler::compile;
+use documents::Refusal;
 use instructions::limit::MOST_WORDS;
-use reader::{SIDE_WORDS, SUBJECT_WORDS, WORD_BYTES};
-use reedbiscuit::{reed_compile, reed_read, reed_run};
-use runner::WORKING_WORDS;
+use reader::{SIDE_WORDS, SUBJECT_WORDS, WORD_BYTES, read};
+use runner::{WORKING_WORDS, run};
 
 // The words of the result table that the program lends.
 const RESULT_WORDS: usize = 8192;
@@ -43,8 +44,9 @@ pub fn line_for(file: &[u8], line: &mut [u8; LINE_BYTES]) -> usize
         &mut working,
         &mut result,
     );
-    let words = applied.words as usize;
-    put_line(applied.number, applied.words, &result[..words], line)
+    let answer = ReedAnswer::from(applied);
+    let words = answer.words as usize;
+    put_line(answer.number, answer.words, &result[..words], line)
 }
 
 // Reads, compiles and runs. The first call that refuses ends the work.
@@ -56,47 +58,13 @@ pub fn apply(
     code: &mut [u32],
     working: &mut [u32],
     res: &mut [u32],
-) -> ReedAnswer
+) -> Result<u32, Refusal>
     ensures { (told result code.new working.new res.new ≡ planned file.now left.old right.old subject.old code.old working.old res.old) × Leaves (read_call file.now left.old right.old subject.old) left.new right.new subject.new }
 {
-    let read = reed_read(file, left, right, subject);
-    if read.number != DONE {
-        return ReedAnswer {
-            number: read.number,
-            words: 0,
-        };
-    }
-    let left_words = read.left as usize;
-    let right_words = read.right as usize;
-    let subject_words = read.subject as usize;
-    compile_and_run(
-        &left[..left_words],
-        &right[..right_words],
-        &subject[..subject_words],
-        code,
-        working,
-        res,
-    )
-}
-
-// The same from the words of the tables on.
-fn compile_and_run(
-    left: &[u32],
-    right: &[u32],
-    subject: &[u32],
-    code: &mut [u32],
-    working: &mut [u32],
-    res: &mut [u32],
-) -> ReedAnswer
-    ensures { told result code.new working.new res.new ≡ after_compile subject.now working.old res.old (compile_call left.now right.now code.old) }
-{
-    let compiled = reed_compile(left, right, code);
-    if compiled.number != DONE {
-        return ReedAnswer {
-            number: compiled.number,
-            words: 0,
-        };
-    }
-    let code_words = compiled.words as usize;
-    reed_run(&code[..code_words], subject, working, res)
+    let counts = read(file, left, right, subject)?;
+    let left = &left[..counts.left as usize];
+    let right = &right[..counts.right as usize];
+    let subject = &subject[..counts.subject as usize];
+    let words = compile(left, right, code)?;
+    run(&code[..words as usize], subject, working, res)
 }

@@ -29,10 +29,8 @@ fn put_rest(words: &[u32], line: &mut [u8], at: usize) -> usize
     ensures { Wrote line.old line.new at result (behind words.now) × (result ≤ length line.new) }
 {
     let mut end = at;
-    let mut i: usize = 0;
-    while i < words.len() {
-        end = put_next(words[i], line, end);
-        i += 1;
+    for &word in words {
+        end = put_next(word, line, end);
     }
     line[end] = NEWLINE;
     end + 1
@@ -48,6 +46,7 @@ fn put_next(n: u32, line: &mut [u8], at: usize) -> usize
 }
 
 // A number's digits from a place on; all but the last are those of its tenth.
+// Kept (point 4): by its contract `Display` may give an Err, which a line has none for, and `fmt::InlineText::of` may cut a number that fits (tried; `returns` doesn't close).
 fn put_number(n: u32, line: &mut [u8], at: usize) -> usize
     requires { at + length (decimal n) ≤ length line.old }
     ensures { Wrote line.old line.new at result (decimal n) }

@@ -19,6 +19,7 @@ fn main(rt: HostRuntime) {
 }
 
 // Reads the input to its end, or until the lent bytes are full. What cannot be read is no file: it is taken for an empty one.
+// Kept (point 3): `Read::read_exact` reads again where a signal interrupts, which is an empty file here, and does not say how many bytes there were before the end.
 fn take_file<R: Read>(input: &mut R, file: &mut [u8]) -> usize
     ensures { Counts result file.new }
 {

@@ -6,9 +6,6 @@ use Rattle.plan.proofs.line.+put_number.Goals as goal
 pub bounds-line-at : goal.bounds-line-at
 bounds-line-at t c = let l = length_one _ c.if-n-lt-BASE.true in search rules
 
-pub overflow_add-result : goal.overflow_add-result
-overflow_add-result t c = let l = length_one _ c.if-n-lt-BASE.true in search rules
-
 pub returns-then-n-lt-BASE : goal.returns-then-n-lt-BASE
 returns-then-n-lt-BASE t c = number_one _ _ _ c.if-n-lt-BASE.true
 

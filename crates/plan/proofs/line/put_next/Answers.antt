@@ -2,14 +2,7 @@
 use native.Mathlib.Omega.{arith}
 use lib.ListN.{length-set}
 use Rattle.plan.proofs.Digits.{ten_digits}
-use Rattle.plan.proofs.Written.{wrote_length, next_number}
 use Rattle.plan.proofs.line.put_next.Goals as goal
 
 pub put_number-requires : goal.put_number-requires
 put_number-requires c = let t = ten_digits c.args.n (omega arith) in let l = length-set c.args.line.now c.args.at 32 in omega arith
-
-pub shape_of-line : goal.shape_of-line
-shape_of-line c = simp length-set at (wrote_length c.put_number.ensures)
-
-pub returns : goal.returns
-returns c = next_number _ c.put_number.ensures
