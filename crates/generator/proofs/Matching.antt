@@ -24,6 +24,10 @@ use Rattle.kahrs.proofs.Simple.{len_vars, unvar_vars, Simple}
 use Rattle.compiled.proofs.Unlisted.{unlisted, unlisted_others, length_up_to}
 use Rattle.tables.specs.Parts.{terms, front, Begins, word_count}
 use Rattle.tables.proofs.Parts.{join, Step, step, begins_less, passed, words_fit, in_table, no_terms, front_term}
+use Rattle.tables.specs.declared.walk.Node.{Node}
+use Rattle.tables.specs.declared.walk.Nodes.{Nodes}
+use Rattle.tables.specs.Nodes.{Stands, starts, part_at, node_gives, goes_past}
+use Rattle.tables.proofs.Nodes.{word_there, count_there, part_there, whole_on, owed_on, arguments_pass, whole_past, at_past, owed_past}
 use Rattle.tables.proofs.Walks.{at_variable, at_abstraction, Walk, walk_from, walk_variable, ended, Walking, walking_from, walking_on, walking_term, walking_ended}
 use Rattle.tables.proofs.Sides.{is_variable, variables_behind}
 use Rattle.tables.proofs.Fronts.{root_words, below_abstraction, root, arguments_begin, argument_count, front_metavariable, front_abstraction}
@@ -33,7 +37,7 @@ use Rattle.symbols.proofs.Entering.{are_vars_vars, simple_join, nodes_vars}
 use Rattle.symbols.proofs.Located.{is_nothing, Entry, entry}
 use Rattle.generator.specs.declared.left.Matched.{Matched}
 use Rattle.generator.specs.Written.{Fits, Wrote}
-use Rattle.generator.specs.Matching.{left_code, plain_code, Variables, First, first_code, Later, later_code, Metavariable, Asked, Done}
+use Rattle.generator.specs.Matching.{left_code, plain_code, Variables, First, first_code, Later, later_code, Metavariable, Asked, Done, behind_node}
 use Rattle.generator.proofs.Written.{words-⧺, Writing, writing_from, writing_on, writing_ended, writing_last, writing_as, fits_first, take_left}
 
 -- ---- Variables
@@ -445,20 +449,15 @@ module _ {part rows old new : List ℕ} {under sets₀ at owed read sets place :
       ∙ words-⧺ (lhs (rows_in rows) under sets (front (drop read part))) (lhs (rows_in rows) under (sets_after (rows_in rows) sets (front (drop read part))) (terms (owed - 1) (drop (read + word_count (front (drop read part))) part))))
       t.writing
 
-  pub term_asked : Asked part rows old under sets₀ at → 131072 ≤ get_or part read 0 → Asked (drop read part) rows new under sets place × (131072 ≤ get_or (drop read part) 0 0)
-  term_asked a lo =
-      let z : read + 0 ≡ read = omega arith in
-      let g : get_or (drop read part) 0 0 ≡ get_or part read 0 = get_or-drop read part 0 0 ∙ ap (λ (i : ℕ). get_or part i 0) z in (
-        record {
-          begins = begins_less 1 (omega arith) t.walking.walk.begins;
-          simple = (rw term_is at t.simple).0;
-          shallow = a.shallow;
-          low = a.low;
-          few = a.few;
-          fits = fits_first (left_code rows under sets (front (drop read part))) _ term_here.fits;
-        },
-        omega arith,
-      )
+  pub term_asked : Asked part rows old under sets₀ at → Asked (drop read part) rows new under sets place
+  term_asked a = record {
+    begins = begins_less 1 (omega arith) t.walking.walk.begins;
+    simple = (rw term_is at t.simple).0;
+    shallow = a.shallow;
+    low = a.low;
+    few = a.few;
+    fits = fits_first (left_code rows under sets (front (drop read part))) _ term_here.fits;
+  }
 
   module _ {newer : List ℕ} {r : Matched} (d : Done (drop read part) rows new newer under sets place r) where
     pub term_on : Translating part rows old under sets₀ at (owed - 1) (read + r.read) r.sets r.next newer
@@ -471,14 +470,69 @@ module _ {part rows old new : List ℕ} {under sets₀ at owed read sets place :
           writing = writing_on (left_code rows under sets (front (drop read part))) _ term_here d.wrote;
         })
 
-    -- it is passed over
-    pub term_read : read < read + r.read
-    term_read =
-        let b = begins_less 1 (omega arith) t.walking.walk.begins in
-        let w = words_fit 1 (drop read part) b in
-        let e : nodes (terms 1 (drop read part)) ≡ nodes (front (drop read part)) + 0 = ap (λ (x : Terms). nodes x) (front_term (drop read part) b) in
-        let q = d.read in
-        omega arith
+-- ---- The terms still to be translated, node by node
+
+-- where the walk stands in the part
+pub record AtNode (part rows old : List ℕ) (under sets₀ at : ℕ) (s : Nodes) (sets place : ℕ) (new : List ℕ) : Type 0 where
+  pub whole : s.part.now ≡ part
+  pub translating : Translating part rows old under sets₀ at s.owed s.at sets place new
+
+pub first_node : {part rows code : List ℕ} {under sets at : ℕ} (s : Nodes) → Asked part rows code under sets at → starts part s
+    → AtNode part rows code under sets at s sets at code
+first_node s a h = record { whole = h.0; translating = rw (h.1, h.2) (translating_from a) }
+
+pub no_node : {part rows old new : List ℕ} {under sets₀ at sets place : ℕ} (s t : Nodes) → AtNode part rows old under sets₀ at s sets place new → node_gives s None t
+    → Done part rows old new under sets₀ at (record { read = t.at; sets = sets; next = place })
+no_node s t e g = rw g.1.1 (translating_ended e.translating (omega arith))
+
+-- it goes on from there
+pub node_stands : {part rows old new : List ℕ} {under sets₀ at sets place : ℕ} (s : Nodes) → AtNode part rows old under sets₀ at s sets place new → Stands s
+node_stands s e = let w = e.translating.walking.walk in rw e.whole (w.begins, let r = w.within in omega arith)
+
+module _ {part rows old new : List ℕ} {under sets₀ at sets place : ℕ} (s t : Nodes) (n : Node)
+    (e : AtNode part rows old under sets₀ at s sets place new) (g : node_gives s (Some n) t) where
+  abbrev stands : Walk part s.at s.owed
+  stands = e.translating.walking.walk
+
+  -- a variable or a symbol
+  module _ (v : n.word < 131072) where
+    below : get_or part s.at 0 < 131072
+    below = rw (word_there s t n e.whole stands g) at v
+
+    pub node_fits : Fits new place (plain_code n.word n.count)
+    node_fits = rw (word_there s t n e.whole stands g, count_there s t n e.whole stands g) (plain_fits e.translating g.1.0 below)
+
+    pub plain_node : {newer : List ℕ} {next : ℕ} → Wrote new newer place next (plain_code n.word n.count) → AtNode part rows old under sets₀ at t sets next newer
+    plain_node w = record {
+      whole = whole_on s t n e.whole stands g;
+      translating =
+          rw (owed_on s t n e.whole stands g, g.1.4)
+          (plain_on e.translating g.1.0 below (rw (word_there s t n e.whole stands g, count_there s t n e.whole stands g) at w));
+    }
+
+  -- its arguments are shorter than the part by its own words
+  pub node_falls : length n.behind.now + 2 ≤ length part
+  node_falls =
+      let w = stands.within in
+      let h = g.1.0 in
+      let d : length n.behind.now ≡ length part - (s.at + 2) = rw (g.1.3, e.whole) (length-drop (s.at + 2) part) in
+      omega arith
+
+  pub node_asked : Asked part rows old under sets₀ at → Asked (part_at n) rows new under sets place
+  node_asked a = rw (part_there s t n e.whole stands g) (term_asked e.translating g.1.0 a)
+
+  module _ {newer : List ℕ} (r : Matched) (d : Done (part_at n) rows new newer under sets place (behind_node r)) where
+    past : Translating part rows old under sets₀ at (s.owed - 1) (s.at + (2 + r.read)) r.sets r.next newer
+    past = term_on e.translating g.1.0 (rw (part_there s t n e.whole stands g) at d)
+
+    pub node_passes : (n.count ≤ t.owed) × (t.at + r.read ≤ length t.part.now)
+    node_passes = arguments_pass s t n e.whole stands g r.read (let w = past.walking.walk.within in omega arith)
+
+    pub node_done : (u : Nodes) → goes_past t n.count r.read u → AtNode part rows old under sets₀ at u r.sets r.next newer
+    node_done u p = record {
+      whole = whole_past s t n e.whole stands g r.read u p;
+      translating = rw (owed_past s t n e.whole stands g r.read u p, at_past s t n e.whole stands g r.read u p) past;
+    }
 
 -- ---- An abstraction or a metavariable
 
@@ -523,14 +577,3 @@ module _ {part rows code : List ℕ} {under sets at : ℕ} (a : Asked part rows 
         sets_left = d.sets_left ∙ sym (ap (sets_after (rows_in rows) sets) body_is);
         wrote = writing_last body_here (rw (add-one under) at d.wrote);
       }
-
-      -- its words are within the part
-      pub body_read : {newer : List ℕ} {r : Matched} → Done (drop 2 part) rows new newer (under + 1) sets inside r → 2 + r.read ≤ length part
-      body_read d =
-          let b = (at_abstraction part 0 1 a.begins (omega arith) v).body in
-          let f = (words_fit 1 (drop 2 part) b).1 in
-          let n : nodes (terms 1 (drop 2 part)) ≡ nodes (front (drop 2 part)) + 0 = ap (λ (x : Terms). nodes x) (front_term (drop 2 part) b) in
-          let l = length-drop 2 part in
-          let w = root_words a.begins in
-          let q = d.read in
-          omega arith

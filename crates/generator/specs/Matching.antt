@@ -64,3 +64,7 @@ pub record Done (part rows old new : List ℕ) (under sets at : ℕ) (r : Matche
   pub read : r.read ≡ word_count (front part)
   pub sets_left : r.sets ≡ sets_after (rows_in rows) sets (front part)
   pub wrote : Wrote old new at r.next (left_code rows under sets (front part))
+
+-- what is done for a node, whose own two words its caller has gone over
+abbrev pub behind_node : Matched → Matched
+behind_node r = record { read = 2 + r.read; sets = r.sets; next = r.next }

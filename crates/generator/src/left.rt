@@ -1,11 +1,12 @@
 // The left side: 004's `lhs`.
-ghost use Rattle.std.specs.Prelude.{◌≤◌, length, take, get_or};
+ghost use Rattle.std.specs.Prelude.{◌≤◌, length, take};
 ghost use Rattle.documents.specs.Lists.{pairlists};
 ghost use Rattle.documents.specs.Instructions.{pair_words};
 ghost use Rattle.documents.specs.Translation.{unvar, bvset};
 ghost use Rattle.tables.specs.Parts.{terms};
+ghost use Rattle.tables.specs.Nodes.{part_at};
 ghost use Rattle.generator.specs.Written.{Fits, Wrote};
-ghost use Rattle.generator.specs.Matching.{Asked, Done, Metavariable, Variables, plain_code, First, first_code, Later, later_code};
+ghost use Rattle.generator.specs.Matching.{Asked, Done, behind_node, Metavariable, Variables, plain_code, First, first_code, Later, later_code};
 
 use crate::put::put;
 use documents::op::{CHECK, EQI, EQVAR, IS, ISABST, NEXT, SET};
@@ -13,8 +14,9 @@ use symbols::{ABOVE, ARGUMENTS, ROW_WORDS, find};
 use tables::compare::D_SHIFT;
 use tables::node::{ABSTRACTION, FIRST_METAVARIABLE, FIRST_SYMBOL};
 use tables::side::occurs_among;
+use tables::walk::{Node, Nodes};
 
-// The words of the subterm that was gone over, the SETs still to come behind it, and the place behind its code.
+// The words that were gone over, the SETs still to come behind it, and the place behind the subterm's code.
 #[derive(Clone, Copy)]
 pub struct Matched {
     pub read: usize,
@@ -38,28 +40,21 @@ pub fn left_side(
     requires { Asked part.now rows.now code.old under sets at }
     ensures { Done part.now rows.now code.old code.new under sets at result }
 {
-    // Kept (point 3): where the next term begins, the call says that went over the one before; `Nodes` would go into it.
-    let mut owed: usize = 1;
-    let mut read: usize = 0;
+    let mut nodes = Nodes::of(part);
     let mut coming = sets;
     let mut place = at;
-    while 0 < owed {
-        let word = part[read];
-        if word < FIRST_METAVARIABLE {
-            let count = part[read + 1];
-            place = left_plain(word, count, code, place);
-            owed = owed - 1 + count as usize;
-            read += 2;
+    while let Some(node) = nodes.next() {
+        if node.word < FIRST_METAVARIABLE {
+            place = left_plain(node.word, node.count, code, place);
             continue;
         }
-        let term = left_term(&part[read..], under, coming, rows, code, place);
-        owed -= 1;
-        read += term.read;
+        let term = left_term(node, under, coming, rows, code, place);
+        nodes.pass(node.count as usize, term.read);
         coming = term.sets;
         place = term.next;
     }
     Matched {
-        read,
+        read: nodes.passed(),
         sets: coming,
         next: place,
     }
@@ -76,57 +71,52 @@ fn left_plain(word: u32, count: u32, code: &mut [u32], at: usize) -> usize
     put(code, at, [IS, word - FIRST_SYMBOL, count])
 }
 
-// An abstraction, ISABST and its body; or a metavariable.
+// An abstraction, ISABST and its body; or a metavariable. Its own two words the caller has gone over.
 #[cycle(left_side_left_term)]
 fn left_term(
-    part: &[u32],
+    node: Node,
     under: u32,
     sets: usize,
     rows: &[u32],
     code: &mut [u32],
     at: usize,
 ) -> Matched
-    requires { Asked part.now rows.now code.old under sets at × (131072 ≤ get_or part.now 0 0) }
-    ensures { Done part.now rows.now code.old code.new under sets at result }
+    requires { Asked (part_at node) rows.now code.old under sets at × (131072 ≤ node.word) }
+    ensures { Done (part_at node.entry) rows.now code.old code.new under sets at (behind_node result) }
 {
-    if part[0] != ABSTRACTION {
-        return left_metavariable(part, under, sets, rows, code, at);
+    if node.word != ABSTRACTION {
+        return left_metavariable(node, under, sets, rows, code, at);
     }
     let inside = put(code, at, [ISABST]);
-    let body = left_side(&part[2..], under + 1, sets, rows, code, inside);
-    Matched {
-        read: 2 + body.read,
-        sets: body.sets,
-        next: body.next,
-    }
+    left_side(node.behind, under + 1, sets, rows, code, inside)
 }
 
 // A metavariable: the first occurrence of it where its location is below the SETs still to come, else a later one.
 fn left_metavariable(
-    part: &[u32],
+    node: Node,
     under: u32,
     sets: usize,
     rows: &[u32],
     code: &mut [u32],
     at: usize,
 ) -> Matched
-    requires { Asked part.now rows.now code.old under sets at × Metavariable part.now }
-    ensures { Done part.now rows.now code.old code.new under sets at result }
+    requires { Asked (part_at node) rows.now code.old under sets at × Metavariable (part_at node) }
+    ensures { Done (part_at node.entry) rows.now code.old code.new under sets at (behind_node result) }
 {
-    let count = part[1];
-    let read = 2 + 2 * count as usize;
-    let Some(location) = find(rows, part[0] - FIRST_METAVARIABLE, count) else {
+    let count = node.count;
+    let read = 2 * count as usize;
+    let Some(location) = find(rows, node.word - FIRST_METAVARIABLE, count) else {
         let next = at;
         return Matched { read, sets, next };
     };
     if location < sets {
-        let next = first_occurrence(&part[2..], count, under, code, at);
+        let next = first_occurrence(node.behind, count, under, code, at);
         let sets = sets - 1;
         return Matched { read, sets, next };
     }
     let row = &rows[ROW_WORDS * location..];
     let entry = (location - sets) as u32;
-    let next = later_occurrence(row, &part[2..], count, under, entry, code, at);
+    let next = later_occurrence(row, node.behind, count, under, entry, code, at);
     Matched { read, sets, next }
 }
 

@@ -27,14 +27,18 @@ use Rattle.compiled.proofs.Unlisted.{distinct_few}
 use Rattle.compiled.proofs.Rows.{length_update}
 use Rattle.compiled.proofs.WordCount.{left_short}
 use Rattle.tables.specs.Parts.{terms, front, Begins, word_count}
-use Rattle.tables.proofs.Parts.{join, Step, step, passed, front_term, words_fit, begins_less, from, from_drop}
-use Rattle.tables.proofs.Walks.{at_abstraction, ended, Walking, walking_from, walking_on, walking_term, walking_ended}
+use Rattle.tables.proofs.Parts.{join, Step, step, passed, front_term, words_fit, begins_less}
+use Rattle.tables.specs.declared.walk.Node.{Node}
+use Rattle.tables.specs.declared.walk.Nodes.{Nodes}
+use Rattle.tables.specs.Nodes.{Stands, starts, part_at, node_gives, goes_past}
+use Rattle.tables.proofs.Nodes.{word_there, part_there, whole_on, owed_on, arguments_pass, whole_past, at_past, owed_past}
+use Rattle.tables.proofs.Walks.{at_abstraction, Walk, ended, Walking, walking_from, walking_on, walking_term, walking_ended}
 use Rattle.tables.proofs.Fronts.{root, arguments_begin, argument_count, front_metavariable, front_abstraction}
 use Rattle.symbols.specs.declared.Entered.{Entered}
 use Rattle.symbols.specs.Rows.{rows_in, found_in}
 use Rattle.symbols.specs.declared.table.SymbolTable.{SymbolTable}
 use Rattle.symbols.specs.Table.{rows_of}
-use Rattle.symbols.specs.Entries.{Enterable, some_entered, entered, Enters, is_found}
+use Rattle.symbols.specs.Entries.{Enterable, some_entered, entered, Enters, behind_node, is_found}
 use Rattle.symbols.proofs.Stored.{rows_few}
 use Rattle.symbols.proofs.Located.{is_nothing, is_found_lem}
 
@@ -158,61 +162,61 @@ met_at n part b lo hi s =
 meta_entries : (n z c : ℕ) (l : List ℕ) (rows : List Row) → length l ≡ c → update n (Meta z (vars l)) rows ≡ enter (lookup z c rows) (row z c n l) rows
 meta_entries n z c l rows e = rw (update_arguments n (vars l) l refl, len_vars l, unvar_vars l, e)
 
--- ---- The subterm that a part begins with
+-- ---- The subterm that a part begins with, and that of a node
 
-module _ {part : List ℕ} {under : ℕ} (g : Enterable part under) where
-  -- what was gone over has a node's words at least and is within the part; its code has at most 67 words a node
-  pub words_within : {rows : List Row} {left : SymbolTable} {r : Option Entered} {read more : ℕ} → Enters under (front part) rows left r → r ≡ some_entered read more
-      → (2 ≤ read) × (read ≤ length part) × (more ≤ 17152)
-  words_within {rows} {read = read} {more} e f =
-      let (fit, q, m) = entered_words under (front part) rows read more (sym f ∙ e.answer) in
-      let w = words_fit 1 part g.begins in
-      let n : nodes (terms 1 part) ≡ nodes (front part) + 0 = ap (λ (ts : Terms). nodes ts) (front_term part g.begins) in
-      let k = left_short under (front part) rows g.low g.simple in
-      let s = g.short in
-      (omega arith, omega arith, omega arith)
+-- its code has at most 67 words a node
+pub words_few : {part : List ℕ} {under : ℕ} → Enterable part under → {rows : List Row} {left : SymbolTable} {r : Option Entered} {read more : ℕ}
+    → Enters under (front part) rows left r → r ≡ some_entered read more → more ≤ 17152
+words_few {part} {under} g {rows} {read = read} {more} e f =
+    let (fit, q, m) = entered_words under (front part) rows read more (sym f ∙ e.answer) in
+    let w = words_fit 1 part g.begins in
+    let n : nodes (terms 1 part) ≡ nodes (front part) + 0 = ap (λ (ts : Terms). nodes ts) (front_term part g.begins) in
+    let k = left_short under (front part) rows g.low g.simple in
+    let s = g.short in
+    omega arith
 
+module _ (n : Node) {under : ℕ} (g : Enterable (part_at n) under) where
   -- an abstraction, and its body
-  module _ (v : get_or part 0 0 ≡ 196608) where
+  module _ (v : n.word ≡ 196608) where
     abbrev body : Term
-    body = front (from 2 part)
+    body = front n.behind.now
 
-    is_abstraction : front part ≡ Abst body
-    is_abstraction = rw (from_drop 2 part) (front_abstraction g.begins v)
+    is_abstraction : front (part_at n) ≡ Abst body
+    is_abstraction = front_abstraction g.begins v
 
     simple_abstraction : Simple under (Abst body)
     simple_abstraction = rw is_abstraction at g.simple
 
-    pub body_enterable : Enterable (from 2 part) (under + 1)
+    pub body_enterable : Enterable n.behind.now (under + 1)
     body_enterable = record {
-      begins = rw from_drop (at_abstraction part 0 1 g.begins (omega arith) v).body;
+      begins = (at_abstraction (part_at n) 0 1 g.begins (omega arith) v).body;
       simple = rw (add-one under) simple_abstraction.1;
       low = let k = simple_abstraction.0 in omega arith;
-      short = let s = g.short in rw (from_drop, length-drop) (omega arith);
+      short = let s = g.short in omega arith;
     }
 
     module _ {rows : List Row} {left : SymbolTable} {r : Option Entered} (e : Enters (under + 1) body rows left r) where
-      pub body_full : r ≡ None → Enters under (front part) rows left None
+      pub body_full : r ≡ None → Enters under (front (part_at n)) rows left None
       body_full f =
           let k = entered_full (under + 1) body rows (sym f ∙ e.answer) in
           rw is_abstraction (is_full under (Abst body) rows left (rw (add-one under) at k))
 
-      pub body_entered : {read more : ℕ} → r ≡ some_entered read more → Enters under (front part) rows left (some_entered (2 + read) (1 + more))
+      pub body_entered : {read more : ℕ} → r ≡ some_entered read more → Enters under (front (part_at n)) rows left (some_entered (2 + read) (1 + more))
       body_entered {read} {more} f =
           let (fit, q, m) = entered_words (under + 1) body rows read more (sym f ∙ e.answer) in
           rw is_abstraction
           (is_entered under (Abst body) rows left (2 + read) (1 + more) (rw (add-one under) at (e.entries fit)) (omega arith) (ap (λ (k : ℕ). 1 + k) (rw (add-one under) at m)))
 
   -- a metavariable
-  module _ (lo : 131072 ≤ get_or part 0 0) (hi : get_or part 0 0 < 196608) where
+  module _ (lo : 131072 ≤ n.word) (hi : n.word < 196608) where
     abbrev name : ℕ
-    name = get_or part 0 0 - 131072
+    name = n.word - 131072
 
     abbrev count : ℕ
-    count = get_or part 1 0
+    count = n.count
 
-    met : Met under part
-    met = met_at under part g.begins lo hi g.simple
+    met : Met under (part_at n)
+    met = met_at under (part_at n) g.begins lo hi g.simple
 
     pub arguments_narrow : count ≤ 8
     arguments_narrow = (root g.begins).narrow
@@ -220,16 +224,16 @@ module _ {part : List ℕ} {under : ℕ} (g : Enterable part under) where
     pub arguments_few : count ≤ under
     arguments_few = met.few
 
-    pub arguments_variables : Begins count (from 2 part) × (are_vars (terms count (from 2 part)) ≡ true)
-    arguments_variables = (rw from_drop (arguments_begin g.begins), rw (from_drop 2 part, met.arguments) (are_vars_vars met.list))
+    pub arguments_variables : Begins count n.behind.now × (are_vars (terms count n.behind.now) ≡ true)
+    arguments_variables = (arguments_begin g.begins, rw met.arguments (are_vars_vars met.list))
 
-    pub arguments_count : length (unvar (terms count (from 2 part))) ≡ count
-    arguments_count = rw (from_drop 2 part, met.arguments, unvar_vars met.list) met.count
+    pub arguments_count : length (unvar (terms count n.behind.now)) ≡ count
+    arguments_count = rw (met.arguments, unvar_vars met.list) met.count
 
-    met_entries : (rows : List Row) (o : Math.Option Located) → lookup name count rows ≡ o → enter o (row name count under met.list) rows ≡ update under (front part) rows
+    met_entries : (rows : List Row) (o : Math.Option Located) → lookup name count rows ≡ o → enter o (row name count under met.list) rows ≡ update under (front (part_at n)) rows
     met_entries rows o q = rw (← q, met.term) (sym (meta_entries under name count met.list rows met.count))
 
-    met_counts : (rows : List Row) (o : Math.Option Located) → lookup name count rows ≡ o → occurrence_words under count o ≡ left_words under (front part) rows
+    met_counts : (rows : List Row) (o : Math.Option Located) → lookup name count rows ≡ o → occurrence_words under count o ≡ left_words under (front (part_at n)) rows
     met_counts rows o q = rw (← q, met.term, len_vars met.list, met.count)
 
     module _ (table : SymbolTable) (words : List ℕ) (its : rows_in words ≡ rows_of table) where
@@ -238,13 +242,13 @@ module _ {part : List ℕ} {under : ℕ} (g : Enterable part under) where
 
       -- one that has a row
       pub later_entered : (l : ℕ) → Some l ≡ found_in (lookup name count (rows_in words))
-          → Enters under (front part) here table (some_entered (2 + 2 * count) (5 + 2 * count))
+          → Enters under (front (part_at n)) here table (some_entered (2 + 2 * count) (5 + 2 * count))
       later_entered l a = go (lookup name count here) refl (is_found_lem (lookup name count here) l (rw its at a))
         where
           go : (o : Math.Option Located) → lookup name count here ≡ o → is_found o ≡ true
-              → Enters under (front part) here table (some_entered (2 + 2 * count) (5 + 2 * count))
+              → Enters under (front (part_at n)) here table (some_entered (2 + 2 * count) (5 + 2 * count))
           go none q f = never (cc)
-          go (some x) q f = is_entered under (front part) here table (2 + 2 * count) (5 + 2 * count) (met_entries here (some x) q) met.word_count_lem (met_counts here (some x) q)
+          go (some x) q f = is_entered under (front (part_at n)) here table (2 + 2 * count) (5 + 2 * count) (met_entries here (some x) q) met.word_count_lem (met_counts here (some x) q)
 
       -- one that has none
       module _ (a : None ≡ found_in (lookup name count (rows_in words))) where
@@ -252,19 +256,19 @@ module _ {part : List ℕ} {under : ℕ} (g : Enterable part under) where
         missing = is_nothing (lookup name count here) (rw its at a)
 
         -- where there is no room for it
-        pub first_full : true ≡ eqb (length here) 16 → Enters under (front part) here table None
+        pub first_full : true ≡ eqb (length here) 16 → Enters under (front (part_at n)) here table None
         first_full z =
-            let n : length here ≡ 16 = eqb-true (length here) 16 (sym z) in
-            let k : suc (length here) ≡ length (update under (front part) here) = ap (λ (rs : List Row). length rs) (met_entries here none missing) in
-            is_full under (front part) here table (omega arith)
+            let m : length here ≡ 16 = eqb-true (length here) 16 (sym z) in
+            let k : suc (length here) ≡ length (update under (front (part_at n)) here) = ap (λ (rs : List Row). length rs) (met_entries here none missing) in
+            is_full under (front (part_at n)) here table (omega arith)
 
         -- where there is
-        pub first_entered : (left : SymbolTable) → rows_of left ≡ row name count under (unvar (terms count (from 2 part))) ∷ here
-            → Enters under (front part) here left (some_entered (2 + 2 * count) (4 + (under - count)))
+        pub first_entered : (left : SymbolTable) → rows_of left ≡ row name count under (unvar (terms count n.behind.now)) ∷ here
+            → Enters under (front (part_at n)) here left (some_entered (2 + 2 * count) (4 + (under - count)))
         first_entered left w =
-            let u : unvar (terms count (from 2 part)) ≡ met.list = rw (from_drop 2 part, met.arguments) (unvar_vars met.list) in
+            let u : unvar (terms count n.behind.now) ≡ met.list = rw met.arguments (unvar_vars met.list) in
             let o : rows_of left ≡ row name count under met.list ∷ here = rw u at w in
-            is_entered under (front part) here left (2 + 2 * count) (4 + (under - count)) (o ∙ met_entries here none missing) met.word_count_lem (met_counts here none missing)
+            is_entered under (front (part_at n)) here left (2 + 2 * count) (4 + (under - count)) (o ∙ met_entries here none missing) met.word_count_lem (met_counts here none missing)
 
 -- there is room where it is not full
 pub room : (table : SymbolTable) → false ≡ eqb (length (rows_of table)) 16 → length (rows_of table) < 16
@@ -312,9 +316,6 @@ entering_ended {part} {under} {rows} {table} {owed} {at} {words} e h =
 
 module _ {part : List ℕ} {under : ℕ} {rows : List Row} {table : SymbolTable} {owed at words : ℕ}
     (e : Entering part under rows table owed at words) (h : 0 < owed) where
-  pub narrow_node : get_or part (at + 1) 0 ≤ 8
-  narrow_node = (step part at owed e.walk.walk.begins h).narrow
-
   -- past a variable's words or a symbol's
   pub entering_plain : get_or part at 0 < 131072 → Entering part under rows table (owed - 1 + get_or part (at + 1) 0) (at + 2) (words + 3)
   entering_plain v =
@@ -333,51 +334,48 @@ module _ {part : List ℕ} {under : ℕ} {rows : List Row} {table : SymbolTable}
 
   -- past a whole term
   abbrev behind : Terms
-  behind = terms (owed - 1) (drop (at + word_count (front (from at part))) part)
+  behind = terms (owed - 1) (drop (at + word_count (front (drop at part))) part)
 
-  terms_are : terms owed (drop at part) ≡ Cons (front (from at part)) behind
+  terms_are : terms owed (drop at part) ≡ Cons (front (drop at part)) behind
   terms_are =
       let d = drop-drop (word_count (front (drop at part))) at part in
-      rw from_drop (rw d at (passed owed (drop at part) e.walk.walk.begins h).terms_are)
+      rw d at (passed owed (drop at part) e.walk.walk.begins h).terms_are
 
-  simple_term : Simple under (Cons (front (from at part)) behind)
+  simple_term : Simple under (Cons (front (drop at part)) behind)
   simple_term = rw terms_are at e.simple
 
-  pub term_enterable : Enterable (from at part) under
+  pub term_enterable : Enterable (drop at part) under
   term_enterable = record {
-    begins = rw from_drop (begins_less 1 (omega arith) e.walk.walk.begins);
+    begins = begins_less 1 (omega arith) e.walk.walk.begins;
     simple = simple_term.0;
     low = e.low;
-    short = let s = e.short in rw (from_drop, length-drop) (omega arith);
+    short = let s = e.short in rw length-drop (omega arith);
   }
 
-  pub first_word : get_or (from at part) 0 0 ≡ get_or part at 0
-  first_word = let k : at + 0 ≡ at = omega arith in rw (from_drop at part, get_or-drop at part 0 0, k)
-
   abbrev after : List Row
-  after = update under (front (from at part)) (rows_of table)
+  after = update under (front (drop at part)) (rows_of table)
 
   after_entries : update under behind after ≡ update under (front part) rows
   after_entries = rw terms_are at e.entries
 
-  after_counts : words + (left_words under (front (from at part)) (rows_of table) + left_words under behind after) ≡ left_words under (front part) rows
+  after_counts : words + (left_words under (front (drop at part)) (rows_of table) + left_words under behind after) ≡ left_words under (front part) rows
   after_counts = rw terms_are at e.counts
 
-  module _ {left : SymbolTable} {r : Option Entered} (t : Enters under (front (from at part)) (rows_of table) left r) where
+  module _ {left : SymbolTable} {r : Option Entered} (t : Enters under (front (drop at part)) (rows_of table) left r) where
     pub term_full : r ≡ None → Enters under (front part) rows left None
     term_full f =
-        let k = entered_full under (front (from at part)) (rows_of table) (sym f ∙ t.answer) in
+        let k = entered_full under (front (drop at part)) (rows_of table) (sym f ∙ t.answer) in
         let g = length_update under behind after in
         let a : length (update under behind after) ≡ length (update under (front part) rows) = ap (λ (rs : List Row). length rs) after_entries in
         is_full under (front part) rows left (omega arith)
 
     pub entering_term : {read more : ℕ} → r ≡ some_entered read more → Entering part under rows left (owed - 1) (at + read) (words + more)
     entering_term {read} {more} f =
-        let (fit, w, m) = entered_words under (front (from at part)) (rows_of table) read more (sym f ∙ t.answer) in
+        let (fit, w, m) = entered_words under (front (drop at part)) (rows_of table) read more (sym f ∙ t.answer) in
         let o : rows_of left ≡ after = t.entries fit in
         let c = after_counts in
         rw w (record {
-          walk = rw from_drop (walking_term e.walk h);
+          walk = walking_term e.walk h;
           simple = simple_term.1;
           low = e.low;
           short = e.short;
@@ -385,3 +383,63 @@ module _ {part : List ℕ} {under : ℕ} {rows : List Row} {table : SymbolTable}
           counts = rw (o, m) (omega arith);
           few = e.few;
         })
+
+-- ---- The walk, node by node
+
+-- where it stands in the part, and so many words of code counted
+pub record AtNode (part : List ℕ) (under : ℕ) (rows : List Row) (table : SymbolTable) (s : Nodes) (words : ℕ) : Type 0 where
+  pub whole : s.part.now ≡ part
+  pub entering : Entering part under rows table s.owed s.at words
+
+pub first_node : {part : List ℕ} {under : ℕ} (table : SymbolTable) (s : Nodes) → Enterable part under → starts part s → AtNode part under (rows_of table) table s 0
+first_node table s g h = record { whole = h.0; entering = rw (h.1, h.2) (entering_from table g) }
+
+pub no_node : {part : List ℕ} {under : ℕ} {rows : List Row} {table : SymbolTable} {words : ℕ} (s t : Nodes) → AtNode part under rows table s words → node_gives s None t
+    → Enters under (front part) rows table (some_entered t.at words)
+no_node s t e g = rw g.1.1 (entering_ended e.entering (omega arith))
+
+-- it goes on from there
+pub node_stands : {part : List ℕ} {under : ℕ} {rows : List Row} {table : SymbolTable} {words : ℕ} (s : Nodes) → AtNode part under rows table s words → Stands s
+node_stands s e = let w = e.entering.walk.walk in rw e.whole (w.begins, let r = w.within in omega arith)
+
+module _ {part : List ℕ} {under : ℕ} {rows : List Row} {table : SymbolTable} {words : ℕ} (s t : Nodes) (n : Node)
+    (e : AtNode part under rows table s words) (g : node_gives s (Some n) t) where
+  abbrev stands : Walk part s.at s.owed
+  stands = e.entering.walk.walk
+
+  pub plain_node : n.word < 131072 → AtNode part under rows table t (words + 3)
+  plain_node v = record {
+    whole = whole_on s t n e.whole stands g;
+    entering = rw (owed_on s t n e.whole stands g, g.1.4) (entering_plain e.entering g.1.0 (rw (word_there s t n e.whole stands g) at v));
+  }
+
+  -- its arguments are shorter than the part by its own words
+  pub node_falls : length n.behind.now + 2 ≤ length part
+  node_falls =
+      let w = stands.within in
+      let h = g.1.0 in
+      let d : length n.behind.now ≡ length part - (s.at + 2) = rw (g.1.3, e.whole) (length-drop (s.at + 2) part) in
+      omega arith
+
+  pub node_enterable : Enterable (part_at n) under
+  node_enterable = rw (part_there s t n e.whole stands g) (term_enterable e.entering g.1.0)
+
+  module _ {left : SymbolTable} (r : Option Entered) (h : Enters under (front (part_at n)) (rows_of table) left (behind_node r)) where
+    there : Enters under (front (drop s.at part)) (rows_of table) left (behind_node r)
+    there = rw (part_there s t n e.whole stands g) at h
+
+    pub node_full : r ≡ None → Enters under (front part) rows left None
+    node_full f = term_full e.entering g.1.0 there (ap behind_node f)
+
+    module _ (x : Entered) (f : r ≡ Some x) where
+      past : Entering part under rows left (s.owed - 1) (s.at + (2 + x.read)) (words + x.words)
+      past = entering_term e.entering g.1.0 there (ap behind_node f)
+
+      pub node_passes : (n.count ≤ t.owed) × (t.at + x.read ≤ length t.part.now)
+      node_passes = arguments_pass s t n e.whole stands g x.read (let w = past.walk.walk.within in omega arith)
+
+      pub node_entered : (u : Nodes) → goes_past t n.count x.read u → AtNode part under rows left u (words + x.words)
+      node_entered u p = record {
+        whole = whole_past s t n e.whole stands g x.read u p;
+        entering = rw (owed_past s t n e.whole stands g x.read u p, at_past s t n e.whole stands g x.read u p) past;
+      }

@@ -1,5 +1,5 @@
 -- Entering the metavariables of a left side in the symbol table (004, section 5), and asking for those of a right side.
-use Rattle.std.specs.Prelude.{◌≡◌, ℕ, ◌≤◌, ◌<◌, Bool, true, false, cond, List, leb, length}
+use Rattle.std.specs.Prelude.{◌≡◌, ℕ, ◌+◌, ◌≤◌, ◌<◌, Bool, true, false, cond, List, leb, length}
 use Rattle.std.specs.Prelude.{Option, Some, None}
 use Rattle.std.proofs.Math.Option as Math
 use Rattle.std.proofs.Math.Option.{none, some}
@@ -34,6 +34,11 @@ entered n t rows = cond (leb (length (update n t rows)) metavariable_limit) (som
 pub record Enters (n : ℕ) (t : Term) (rows : List Row) (table : SymbolTable) (r : Option Entered) : Type 0 where
   pub answer : r ≡ entered n t rows
   pub entries : length (update n t rows) ≤ metavariable_limit → rows_of table ≡ update n t rows
+
+-- the answer for a node, whose own two words its caller has gone over
+abbrev pub behind_node : Option Entered → Option Entered
+behind_node None = None
+behind_node (Some e) = some_entered (2 + e.read) e.words
 
 abbrev pub is_found : Math.Option Located → Bool
 is_found none = false

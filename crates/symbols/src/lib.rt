@@ -5,17 +5,18 @@
 
 pub mod table; // its rows, and entering one
 
-ghost use Rattle.std.specs.Prelude.{◌≡◌, ◌≤◌, ◌<◌, get_or};
+ghost use Rattle.std.specs.Prelude.{◌≡◌, ◌≤◌, ◌<◌};
 ghost use Rattle.documents.specs.Rules.{metas};
 ghost use Rattle.documents.specs.Translation.{lookup};
 ghost use Rattle.tables.specs.Parts.{front, Begins};
+ghost use Rattle.tables.specs.Nodes.{part_at};
 ghost use Rattle.symbols.specs.Rows.{rows_in, found_in};
 ghost use Rattle.symbols.specs.Table.{rows_of};
-ghost use Rattle.symbols.specs.Entries.{Enterable, Enters, all_found};
+ghost use Rattle.symbols.specs.Entries.{Enterable, Enters, behind_node, all_found};
 
 use crate::table::SymbolTable;
 use tables::node::{ABSTRACTION, FIRST_METAVARIABLE};
-use tables::walk::Nodes;
+use tables::walk::{Node, Nodes};
 
 // Distinct metavariables on the left.
 pub const MOST_METAVARIABLES: usize = 16;
@@ -45,7 +46,7 @@ pub fn find(rows: &[u32], name: u32, count: u32) -> Option<usize>
     None
 }
 
-// The words of the subterm that was gone over, and the words of its code.
+// The words that were gone over, and the words of the subterm's code.
 #[derive(Clone, Copy)]
 pub struct Entered {
     pub read: usize,
@@ -70,58 +71,54 @@ pub fn enter_all(part: &[u32], under: u32, table: &mut SymbolTable) -> Option<En
     requires { Enterable part.now under }
     ensures { Enters under (front part.now) (rows_of table.old) table.new result }
 {
-    // Kept (point 3): where the next term begins, the call says that went over the one before; `Nodes` would go into it.
-    let mut owed: usize = 1;
-    let mut read: usize = 0;
+    let mut nodes = Nodes::of(part);
     let mut words: usize = 0;
-    while 0 < owed {
-        if part[read] < FIRST_METAVARIABLE {
-            owed = owed - 1 + part[read + 1] as usize;
-            read += 2;
+    while let Some(node) = nodes.next() {
+        if node.word < FIRST_METAVARIABLE {
             words += PLAIN_WORDS;
             continue;
         }
-        let term = enter_term(&part[read..], under, table)?;
-        owed -= 1;
-        read += term.read;
+        let term = enter_term(node, under, table)?;
+        nodes.pass(node.count as usize, term.read);
         words += term.words;
     }
+    let read = nodes.passed();
     Some(Entered { read, words })
 }
 
-// An abstraction or a metavariable.
+// An abstraction or a metavariable, whose own two words the caller has gone over.
 #[cycle(enter_all_enter_term)]
-fn enter_term(part: &[u32], under: u32, table: &mut SymbolTable) -> Option<Entered>
-    requires { Enterable part.now under × (131072 ≤ get_or part.now 0 0) }
-    ensures { Enters under (front part.now) (rows_of table.old) table.new result }
+fn enter_term(node: Node, under: u32, table: &mut SymbolTable) -> Option<Entered>
+    requires { Enterable (part_at node) under × (131072 ≤ node.word) }
+    ensures { Enters under (front (part_at node.entry)) (rows_of table.old) table.new (behind_node result) }
 {
-    if part[0] != ABSTRACTION {
-        return enter_metavariable(part, under, table);
+    if node.word != ABSTRACTION {
+        return enter_metavariable(node, under, table);
     }
-    let body = enter_all(&part[2..], under + 1, table)?;
+    let body = enter_all(node.behind, under + 1, table)?;
+    let words = ABSTRACTION_WORDS + body.words;
     Some(Entered {
-        read: 2 + body.read,
-        words: ABSTRACTION_WORDS + body.words,
+        read: body.read,
+        words,
     })
 }
 
 // A metavariable: where it has no row yet, this is its first occurrence.
-fn enter_metavariable(part: &[u32], under: u32, table: &mut SymbolTable) -> Option<Entered>
-    requires { Enterable part.now under × (131072 ≤ get_or part.now 0 0) × (get_or part.now 0 0 < 196608) }
-    ensures { Enters under (front part.now) (rows_of table.old) table.new result }
+fn enter_metavariable(node: Node, under: u32, table: &mut SymbolTable) -> Option<Entered>
+    requires { Enterable (part_at node) under × (131072 ≤ node.word) × (node.word < 196608) }
+    ensures { Enters under (front (part_at node.entry)) (rows_of table.old) table.new (behind_node result) }
 {
-    let name = part[0] - FIRST_METAVARIABLE;
-    let count = part[1];
-    let read = 2 + 2 * count as usize;
-    if find(table.rows(), name, count).is_some() {
-        let words = LATER_WORDS + 2 * count as usize;
+    let name = node.word - FIRST_METAVARIABLE;
+    let read = 2 * node.count as usize;
+    if find(table.rows(), name, node.count).is_some() {
+        let words = LATER_WORDS + 2 * node.count as usize;
         return Some(Entered { read, words });
     }
     if table.is_full() {
         return None;
     }
-    table.enter(name, count, under, &part[2..]);
-    let words = FIRST_WORDS + (under - count) as usize;
+    table.enter(name, node.count, under, node.behind);
+    let words = FIRST_WORDS + (under - node.count) as usize;
     Some(Entered { read, words })
 }
 

@@ -158,7 +158,7 @@ module _ {marks : List ℕ} {j : ℕ} {part : List ℕ} (s t : Nodes) (n : Node)
       behind : Walking s.part.now (s.owed - 1) (s.at + 2 + m)
       behind = rw inner.1 (walking_abstraction l.walk g.1.0 here)
 
-      pub body_passes : (0 < t.owed) × (t.at + m ≤ length t.part.now)
+      pub body_passes : (1 ≤ t.owed) × (t.at + m ≤ length t.part.now)
       body_passes =
           let a = at_abstraction s.part.now s.at s.owed l.walk.walk.begins g.1.0 here in
           let w = behind.walk.within in
@@ -169,7 +169,7 @@ module _ {marks : List ℕ} {j : ℕ} {part : List ℕ} (s t : Nodes) (n : Node)
           let x = g.1.4 in
           (omega arith, omega arith)
 
-      pub looking_body : (u : Nodes) → goes_past t m u → Looking marks j part u
+      pub looking_body : (u : Nodes) → goes_past t 1 m u → Looking marks j part u
       looking_body u f =
           let a = at_abstraction s.part.now s.at s.owed l.walk.walk.begins g.1.0 here in
           let c = a.one in

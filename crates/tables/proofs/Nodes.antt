@@ -1,15 +1,17 @@
 -- A loop over the nodes of a term, in the form of the laws of a walk: where it stood, and what it owes behind a node.
-use Rattle.std.proofs.Common.{◌≡◌, refl, ap, ◌∙◌, ℕ, ◌+◌, ◌-◌, ◌%◌, ◌≤◌, ◌<◌, true, false, ◌&&◌, List, ◌∷◌, get_or, leb, ltb, arith}
+use Rattle.std.proofs.Common.{◌≡◌, refl, sym, ap, ◌∙◌, ℕ, ◌+◌, ◌-◌, ◌%◌, ◌≤◌, ◌<◌, true, false, ◌&&◌, List, ◌∷◌, length, get_or, leb, ltb, arith}
 use borrow.Author.Tests.{le-leb, lt-ltb, leb-true, ltb-true}
 use Rattle.documents.specs.Rules.{metas, simple}
 use Rattle.documents.proofs.Lists.{T_of, of_and, on, never}
 use Rattle.std.specs.Prelude.{drop, Some, None}
+use denote.Ref.{Bor}
 use Rattle.documents.specs.Terms.{Terms, Nil}
 use Rattle.tables.specs.declared.walk.Node.{Node}
 use Rattle.tables.specs.declared.walk.Nodes.{Nodes}
 use Rattle.tables.specs.Parts.{terms, front, Begins}
-use Rattle.tables.specs.Nodes.{Stands, starts, is_metavariable, node_gives, owes}
+use Rattle.tables.specs.Nodes.{Stands, starts, part_at, is_metavariable, node_gives, goes_past, owes}
 use Rattle.tables.specs.Side.{distinct}
+use Rattle.tables.proofs.Parts.{two}
 use Rattle.tables.proofs.Walks.{Walk, walk_at, ended}
 use Rattle.tables.proofs.Sides.{metas_front, metas_here, metas_behind, simple_front, simple_here, simple_behind}
 
@@ -33,6 +35,44 @@ module _ (s t : Nodes) (n : Node) (b : Stands s) (g : node_gives s (Some n) t) w
 -- a step that gave none
 pub owes_none : (s t : Nodes) → Stands s → node_gives s None t → owes s ≡ Nil
 owes_none s t b g = ended (walk_at b.0 b.1) (omega arith)
+
+-- and where it stands then, in the words of the part that it walks
+module _ {part : List ℕ} (s t : Nodes) (n : Node) (whole : s.part.now ≡ part) (w : Walk part s.at s.owed) (g : node_gives s (Some n) t) where
+  pub word_there : n.word ≡ get_or part s.at 0
+  word_there = g.1.1 ∙ ap (λ (p : List ℕ). get_or p s.at 0) whole
+
+  pub count_there : n.count ≡ get_or part (s.at + 1) 0
+  count_there = g.1.2 ∙ ap (λ (p : List ℕ). get_or p (s.at + 1) 0) whole
+
+  pub whole_on : t.part.now ≡ part
+  whole_on = ap (λ (p : Bor (List ℕ)). p.now) g.0 ∙ whole
+
+  pub owed_on : t.owed ≡ s.owed - 1 + get_or part (s.at + 1) 0
+  owed_on = g.1.5 ∙ ap (λ (k : ℕ). s.owed - 1 + k) count_there
+
+  pub part_there : part_at n ≡ drop s.at part
+  part_there =
+      let k = w.within in
+      let h = g.1.0 in
+      rw (word_there, count_there, g.1.3, whole) (sym (two part s.at (omega arith)))
+
+  -- on behind the node's arguments, of so many words
+  pub arguments_pass : (m : ℕ) → s.at + (2 + m) ≤ length part → (n.count ≤ t.owed) × (t.at + m ≤ length t.part.now)
+  arguments_pass m h =
+      let o = g.1.5 in
+      let a = g.1.4 in
+      let p = ap (λ (l : List ℕ). length l) whole_on in
+      (omega arith, omega arith)
+
+  module _ (m : ℕ) (u : Nodes) (f : goes_past t n.count m u) where
+    pub whole_past : u.part.now ≡ part
+    whole_past = ap (λ (p : Bor (List ℕ)). p.now) f.0 ∙ whole_on
+
+    pub at_past : u.at ≡ s.at + (2 + m)
+    at_past = let a = g.1.4 in let b = f.1 in omega arith
+
+    pub owed_past : u.owed ≡ s.owed - 1
+    owed_past = let o = g.1.5 in let b = f.2 in omega arith
 
 pub metas_first : (part : List ℕ) (s : Nodes) → Begins 1 part → starts part s → metas (owes s) ≡ metas (front part)
 metas_first part s b h = ap (λ (ts : Terms). metas ts) (owes_first part s h) ∙ metas_front b

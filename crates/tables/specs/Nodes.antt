@@ -1,5 +1,5 @@
 -- The walk of the terms that a part begins with: where it stands, and what a step of it gives.
-use Rattle.std.specs.Prelude.{◌≡◌, ℕ, Bool, ◌&&◌, leb, ltb, ◌+◌, ◌-◌, ◌≤◌, ◌<◌, List, length, get_or, drop, Option}
+use Rattle.std.specs.Prelude.{◌≡◌, ℕ, Bool, ◌&&◌, leb, ltb, ◌+◌, ◌-◌, ◌≤◌, ◌<◌, List, ◌∷◌, length, get_or, drop, Option}
 use Rattle.std.specs.Option.{MatchOption}
 use Rattle.tables.specs.declared.walk.Node.{Node}
 use Rattle.tables.specs.declared.walk.Nodes.{Nodes}
@@ -18,6 +18,10 @@ owes s = terms s.owed (drop s.at s.part.now)
 abbrev pub starts : List ℕ → Nodes → Type 0
 starts part s = (s.part.now ≡ part) × (s.at ≡ 0) × (s.owed ≡ 1)
 
+-- the part that a node begins
+abbrev pub part_at : Node → List ℕ
+part_at n = n.word ∷ n.count ∷ n.behind.now
+
 -- a metavariable's first word
 abbrev pub is_metavariable : ℕ → Bool
 is_metavariable word = leb 131072 word && ltb word 196608
@@ -28,9 +32,9 @@ node_gives s r t = (t.part ≡ s.part) × MatchOption r ((s.owed ≡ 0) × (t �
     (λ n. (0 < s.owed) × (n.word ≡ get_or s.part.now s.at 0) × (n.count ≡ get_or s.part.now (s.at + 1) 0) × (n.behind.now ≡ drop (s.at + 2) s.part.now)
     × (t.at ≡ s.at + 2) × (t.owed ≡ s.owed - 1 + n.count))
 
--- on behind a term of so many words
-abbrev pub goes_past : Nodes → ℕ → Nodes → Type 0
-goes_past s words t = (t.part ≡ s.part) × (t.at ≡ s.at + words) × (t.owed ≡ s.owed - 1)
+-- on behind so many terms, of so many words
+abbrev pub goes_past : Nodes → ℕ → ℕ → Nodes → Type 0
+goes_past s gone words t = (t.part ≡ s.part) × (t.at ≡ s.at + words) × (t.owed ≡ s.owed - gone)
 
 -- no step goes past the part's end
 abbrev pub words_left : Nodes → ℕ

@@ -58,7 +58,7 @@ fn look(part: &[u32], marks: &[u8; MARKS], under: usize) -> Option<usize>
             return None;
         }
         if node.word == ABSTRACTION {
-            nodes.pass(look(node.behind, marks, under + 1)?);
+            nodes.pass(1, look(node.behind, marks, under + 1)?);
         }
     }
     Some(nodes.passed())

@@ -1,5 +1,5 @@
 // The walk of a term, node by node: one running count of the terms still owed tells where it ends.
-ghost use Rattle.std.specs.Prelude.{◌≡◌, ◌+◌, ◌≤◌, ◌<◌, length};
+ghost use Rattle.std.specs.Prelude.{◌≡◌, ◌+◌, ◌≤◌, length};
 ghost use Rattle.std.specs.Iterator.{at_most};
 ghost use Rattle.tables.specs.Parts.{Begins};
 ghost use Rattle.tables.specs.Nodes.{Stands, starts, is_metavariable, goes_past, node_gives, words_left};
@@ -43,13 +43,13 @@ impl<'a> Nodes<'a> {
         }
     }
 
-    // Goes on behind the first term that is owed, of so many words, which somebody else has gone over.
-    pub fn pass(&mut self, words: usize)
-        requires { (0 < self.old.owed) × (self.old.at + words ≤ length self.old.part.now) }
-        ensures { goes_past self.old words self.new }
+    // Goes on behind the first terms that are owed, so many, of so many words together, which somebody else has gone over.
+    pub fn pass(&mut self, terms: usize, words: usize)
+        requires { (terms ≤ self.old.owed) × (self.old.at + words ≤ length self.old.part.now) }
+        ensures { goes_past self.old terms words self.new }
     {
         self.at += words;
-        self.owed -= 1;
+        self.owed -= terms;
     }
 
     // How many words were gone over.

@@ -4,17 +4,17 @@
 use Prim.Native.Nat.{◌+◌, ◌-◌, ◌*◌}
 use lib.ListN.{length}
 use Rattle.symbols.specs.Table.{rows_of}
-use Rattle.symbols.proofs.Entering.{Entering}
+use Rattle.symbols.proofs.Entering.{AtNode}
 use Rattle.symbols.proofs.+enter_all_enter_term.Given as goal
 
 abbrev pub decreases-enter_all : goal.decreases-enter_all
 decreases-enter_all l = 2 * length l.part.now + 1
 
 abbrev pub decreases-enter_term : goal.decreases-enter_term
-decreases-enter_term l = 2 * length l.part.now
+decreases-enter_term l = 2 * length l.node.behind.now + 2
 
-abbrev pub invariant-enter_all-loop-owed : goal.invariant-enter_all-loop-owed
-invariant-enter_all-loop-owed l = Entering l.part l.under (rows_of l.initial.table) l.table l.owed l.read l.words
+abbrev pub invariant-enter_all-loop-node : goal.invariant-enter_all-loop-node
+invariant-enter_all-loop-node l = AtNode l.part l.under (rows_of l.initial.table) l.table l.nodes l.words
 
-abbrev pub decreases-enter_all-loop-owed : goal.decreases-enter_all-loop-owed
-decreases-enter_all-loop-owed l = length l.part - l.read
+abbrev pub decreases-enter_all-loop-node : goal.decreases-enter_all-loop-node
+decreases-enter_all-loop-node l = length l.nodes.part.now - l.nodes.at

@@ -9,25 +9,25 @@ pub returns-then-is_full : goal.returns-then-is_full
 returns-then-is_full c =
     let p = c.requires in
     let a = absent _ c.find.ensures (sym c.is_some.ensures ∙ c.if-is_some.false) in
-    first_full p.0 p.1 p.2 c.args.table.now c.rows.result.now c.rows.ensures.rows a (sym c.if-is_full.true ∙ c.is_full.ensures)
+    first_full c.args.node p.0 p.1 p.2 c.args.table.now c.rows.result.now c.rows.ensures.rows a (sym c.if-is_full.true ∙ c.is_full.ensures)
 
 pub enter-requires : goal.enter-requires
 enter-requires c =
     let p = c.requires in
-    let a = arguments_variables p.0 p.1 p.2 in
-    (a.0, a.1, arguments_count p.0 p.1 p.2, arguments_narrow p.0 p.1 p.2, room c.args.table.now (sym c.if-is_full.false ∙ c.is_full.ensures))
+    let a = arguments_variables c.args.node p.0 p.1 p.2 in
+    (a.0, a.1, arguments_count c.args.node p.0 p.1 p.2, arguments_narrow c.args.node p.0 p.1 p.2, room c.args.table.now (sym c.if-is_full.false ∙ c.is_full.ensures))
 
 pub overflow_sub-words : goal.overflow_sub-words
-overflow_sub-words c = let p = c.requires in let k = arguments_few p.0 p.1 p.2 in search rules
+overflow_sub-words c = let p = c.requires in let k = arguments_few c.args.node p.0 p.1 p.2 in search rules
 
 pub returns : goal.returns
 returns c =
     let p = c.requires in
     let a = absent _ c.find.ensures (sym c.is_some.ensures ∙ c.if-is_some.false) in
-    first_entered p.0 p.1 p.2 c.args.table.now c.rows.result.now c.rows.ensures.rows a _ c.enter.ensures
+    first_entered c.args.node p.0 p.1 p.2 c.args.table.now c.rows.result.now c.rows.ensures.rows a _ c.enter.ensures
 
 pub returns-then-is_some : goal.returns-then-is_some
 returns-then-is_some c =
     let p = c.requires in
     let l = present _ c.find.ensures (sym c.is_some.ensures ∙ c.if-is_some.true) in
-    later_entered p.0 p.1 p.2 c.args.table.now c.rows.result.now c.rows.ensures.rows l.0 l.1
+    later_entered c.args.node p.0 p.1 p.2 c.args.table.now c.rows.result.now c.rows.ensures.rows l.0 l.1

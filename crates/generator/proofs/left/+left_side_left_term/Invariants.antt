@@ -3,17 +3,17 @@
 -- abstraction.
 use Prim.Native.Nat.{◌+◌, ◌-◌, ◌*◌}
 use lib.ListN.{length}
-use Rattle.generator.proofs.Matching.{Translating}
+use Rattle.generator.proofs.Matching.{AtNode}
 use Rattle.generator.proofs.left.+left_side_left_term.Given as goal
 
 abbrev pub decreases-left_side : goal.decreases-left_side
 decreases-left_side l = 2 * length l.part.now + 1
 
 abbrev pub decreases-left_term : goal.decreases-left_term
-decreases-left_term l = 2 * length l.part.now
+decreases-left_term l = 2 * length l.node.behind.now + 2
 
-abbrev pub invariant-left_side-loop-owed : goal.invariant-left_side-loop-owed
-invariant-left_side-loop-owed l = Translating l.part l.rows l.initial.code l.under l.sets l.at l.owed l.read l.coming l.place l.code
+abbrev pub invariant-left_side-loop-node : goal.invariant-left_side-loop-node
+invariant-left_side-loop-node l = AtNode l.part l.rows l.initial.code l.under l.sets l.at l.nodes l.coming l.place l.code
 
-abbrev pub decreases-left_side-loop-owed : goal.decreases-left_side-loop-owed
-decreases-left_side-loop-owed l = length l.part - l.read
+abbrev pub decreases-left_side-loop-node : goal.decreases-left_side-loop-node
+decreases-left_side-loop-node l = length l.nodes.part.now - l.nodes.at

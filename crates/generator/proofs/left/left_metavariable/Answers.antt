@@ -16,10 +16,10 @@ pub returns-in_default : goal.returns-in_default
 returns-in_default c = left_none c.requires.0 c.requires.1 (sym c.in_default.is ∙ c.find.ensures)
 
 pub first_occurrence-next-requires : goal.first_occurrence-next-requires
-first_occurrence-next-requires c = subst (λ (p : List ℕ). First p (get_or c.args.part.now 1 0) c.args.under × Fits c.args.code.now c.args.at (first_code p (get_or c.args.part.now 1 0) c.args.under)) (sym (from_drop 2 c.args.part.now)) (left_first_fits c.requires.0 c.requires.1 (sym c.in-Some.is ∙ c.find.ensures) c.if-location-sets.true)
+first_occurrence-next-requires c = left_first_fits c.requires.0 c.requires.1 (sym c.in-Some.is ∙ c.find.ensures) c.if-location-sets.true
 
 pub returns-then-location-sets : goal.returns-then-location-sets
-returns-then-location-sets c = left_first c.requires.0 c.requires.1 (sym c.in-Some.is ∙ c.find.ensures) c.if-location-sets.true (subst (λ (p : List ℕ). Wrote c.args.code.now c.first_occurrence-next.new.code c.args.at c.first_occurrence-next.result (first_code p (get_or c.args.part.now 1 0) c.args.under)) (from_drop 2 c.args.part.now) c.first_occurrence-next.ensures)
+returns-then-location-sets c = left_first c.requires.0 c.requires.1 (sym c.in-Some.is ∙ c.find.ensures) c.if-location-sets.true c.first_occurrence-next.ensures
 
 pub overflow_mul-row : goal.overflow_mul-row
 overflow_mul-row c = let p = (its_row c.requires.0 c.requires.1 (sym c.in-Some.is ∙ c.find.ensures)).within in search rules
@@ -37,7 +37,7 @@ pub overflow_cast-entry : goal.overflow_cast-entry
 overflow_cast-entry c = let p = (its_row c.requires.0 c.requires.1 (sym c.in-Some.is ∙ c.find.ensures)).within in search rules
 
 pub later_occurrence-next-requires : goal.later_occurrence-next-requires
-later_occurrence-next-requires c = let s = c.args in rw (from_drop 2 s.part.now, from_drop (11 * c.in-Some.location) s.rows.now) (left_later_fits c.requires.0 c.requires.1 (sym c.in-Some.is ∙ c.find.ensures) c.if-location-sets.false)
+later_occurrence-next-requires c = let s = c.args in rw (from_drop (11 * c.in-Some.location) s.rows.now) (left_later_fits c.requires.0 c.requires.1 (sym c.in-Some.is ∙ c.find.ensures) c.if-location-sets.false)
 
 pub returns : goal.returns
-returns c = let s = c.args in left_later c.requires.0 c.requires.1 (sym c.in-Some.is ∙ c.find.ensures) c.if-location-sets.false (rw (from_drop 2 s.part.now, from_drop (11 * c.in-Some.location) s.rows.now) at c.later_occurrence-next.ensures)
+returns c = let s = c.args in left_later c.requires.0 c.requires.1 (sym c.in-Some.is ∙ c.find.ensures) c.if-location-sets.false (rw (from_drop (11 * c.in-Some.location) s.rows.now) at c.later_occurrence-next.ensures)
