@@ -23,14 +23,14 @@ use Rattle.documents.proofs.Lists.{never}
 use Rattle.kahrs.proofs.Simple.{len_vars, unvar_vars, Simple}
 use Rattle.compiled.proofs.Unlisted.{unlisted, unlisted_others, length_up_to}
 use Rattle.tables.specs.Parts.{terms, front, Begins, word_count}
-use Rattle.tables.proofs.Parts.{join, Step, step, begins_less, passed, words_fit, in_table, no_terms, front_term}
+use Rattle.tables.proofs.Parts.{join, Step, step, begins_less, passed, in_table, no_terms, front_term}
 use Rattle.tables.specs.declared.walk.Node.{Node}
 use Rattle.tables.specs.declared.walk.Nodes.{Nodes}
 use Rattle.tables.specs.Nodes.{Stands, starts, part_at, node_gives, goes_past}
 use Rattle.tables.proofs.Nodes.{word_there, count_there, part_there, whole_on, owed_on, arguments_pass, whole_past, at_past, owed_past}
 use Rattle.tables.proofs.Walks.{at_variable, at_abstraction, Walk, walk_from, walk_variable, ended, Walking, walking_from, walking_on, walking_term, walking_ended}
 use Rattle.tables.proofs.Sides.{is_variable, variables_behind}
-use Rattle.tables.proofs.Fronts.{root_words, below_abstraction, root, arguments_begin, argument_count, front_metavariable, front_abstraction}
+use Rattle.tables.proofs.Fronts.{below_abstraction, root, arguments_begin, argument_count, front_metavariable, front_abstraction}
 use Rattle.std.specs.Prelude.{Some, None}
 use Rattle.symbols.specs.Rows.{rows_in, found_in}
 use Rattle.symbols.proofs.Entering.{are_vars_vars, simple_join, nodes_vars}

@@ -24,8 +24,8 @@ pub struct Matched {
     pub next: usize,
 }
 
-// The code of the subterm that a part begins with, under so many abstractions; `sets` is the number of SETs still to come. Nodes are passed by a
-// running count of the terms still owed; only an abstraction takes a call.
+// The code of the subterm that a part begins with, under so many abstractions; `sets` is the number of SETs still to come. Only
+// an abstraction takes a call of it.
 // Kept (point 5): a struct of `code` and `at` would add to each contract that it still holds the same reference; of the others only `rows` is the same
 // in every call.
 #[cycle(left_side_left_term)]

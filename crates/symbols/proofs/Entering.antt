@@ -1,4 +1,4 @@
--- Entering the metavariables of a left side's subterm, in the code's form: at an abstraction or a metavariable that a part begins with, and in a walk.
+-- Entering the metavariables of a left side's subterm, in the code's form: at an abstraction's node or a metavariable's, and in a walk.
 -- There what the table will be at the end is what the terms still owed make of the rows that are there, and the words of the code are those counted and
 -- those of the terms still owed. One law for each way through the loop.
 use mathlib.Core.Path.{◌≡◌, refl, sym, ap, ◌∙◌}
@@ -12,7 +12,7 @@ use Rattle.std.specs.Prelude.{Option, Some, None}
 use mathlib.Core.List.{List, [], ◌∷◌}
 use lib.Dec.{leb, eqb}
 use lib.ListN.{length, drop, get_or, length-drop}
-use lib.Seq.{drop-drop, get_or-drop}
+use lib.Seq.{drop-drop}
 use borrow.Author.Tests.{le-leb, lt-leb, leb-true, leb-false, eqb-true, eqb-false}
 use Rattle.std.proofs.lemmas.Option.{same_Some}
 use Rattle.documents.specs.Limits.{metavariable_limit}

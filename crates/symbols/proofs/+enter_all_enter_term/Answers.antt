@@ -1,4 +1,3 @@
-use mathlib.Core.Path.{sym}
 use native.Mathlib.Omega.{arith}
 use Rattle.tables.proofs.Fronts.{below_abstraction}
 use Rattle.symbols.proofs.Entering.{words_few, body_enterable, body_full, body_entered, first_node, plain_node, node_enterable, node_full, node_passes, node_entered, node_stands, node_falls, no_node}

@@ -1,10 +1,5 @@
 -- `left::left_metavariable` meets its contract. What is found in the symbol table is what 004's `lhs` looks up, and the three cases are its own:
 -- no row, a location below the SETs to come, any other.
-use Rattle.std.specs.Prelude.{ℕ, List}
-use Rattle.std.proofs.Common.{subst}
-use lib.ListN.{get_or}
-use Rattle.generator.specs.Written.{Fits, Wrote}
-use Rattle.generator.specs.Matching.{First, first_code}
 use mathlib.Core.Path.{sym, ◌∙◌}
 use Prim.Native.Nat.{◌*◌}
 use Rattle.tables.proofs.Parts.{from_drop}
