@@ -49,7 +49,7 @@ pub fn measure(walk: &Walk, from: usize, end: usize, work: &mut [u32]) -> Option
     let mut last: usize = 0;
     let mut sum: usize = 0;
     let mut farthest: u32 = 0;
-    // Kept (point 3): an instruction is as wide as its opcode and its bodies make it, so no range has the places.
+    // Kept (point 3): no other loop goes over instructions so; an iterator would hold code, place and end for this one, and read each opcode twice.
     while at < end {
         let op = code[at];
         if op == LAMBDA {

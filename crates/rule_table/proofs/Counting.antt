@@ -9,6 +9,9 @@ use lib.ListN.{length, get_or, drop, drop_of_length-le}
 use lib.Seq.{drop-drop}
 use borrow.Author.Tests.{le-leb, lt-leb}
 use Rattle.documents.proofs.Lists.{at_cons}
+use Rattle.std.specs.Prelude.{Result, Ok, Err}
+use Rattle.documents.specs.declared.Refusal.{Refusal}
+use Rattle.rule_table.specs.Each.{rule_at}
 use Rattle.rewriting.specs.RuleTable.{listed}
 use Rattle.rewriting.specs.ListCall.{rule_limit}
 use Rattle.rewriting.proofs.RuleTables.{listed_count}
@@ -44,7 +47,14 @@ module _ {rules : List ℕ} {at count : ℕ} (c : Counted rules at count) where
     too_many n = sym (lt-leb (length (listed rules)) rule_limit (omega (arith, c.rest, counted_at rules at h)))
 
     -- a rule that is cut short by the end is counted, and is the last
-    pub cut_counted : (count ≡ rule_limit → ⊥) → length rules - at - 1 < get_or rules at 0 → true ≡ leb (length (listed rules)) rule_limit
-    cut_counted n l =
+    pub counted_cut : (count ≡ rule_limit → ⊥) → length rules - at - 1 < get_or rules at 0 → Counted rules (length rules) (count + 1)
+    counted_cut n l =
         let z = none_behind rules (at + 1 + get_or rules at 0) (omega arith) in
-        sym (le-leb (length (listed rules)) rule_limit (omega (arith, c.rest, c.few, n, counted_at rules at h)))
+        let y = none_behind rules (length rules) (omega arith) in
+        record { inside = omega arith; few = omega (arith, c.few, n); rest = omega (arith, c.rest, counted_at rules at h, z, y) }
+
+-- a step that gave a rule
+pub counted_step : {rules : List ℕ} {at count : ℕ} (next : ℕ) (r : Result ℕ Refusal) → Counted rules at count → (count ≡ rule_limit → ⊥) → at < length rules
+    → rule_at rules at r next → Counted rules next (count + 1)
+counted_step next (Ok start) c n h g = rw g.1 (counted_more c h n (rw g.1 at g.2))
+counted_step next (Err w) c n h g = rw g.1 (counted_cut c h n g.2)

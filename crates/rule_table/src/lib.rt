@@ -9,25 +9,22 @@ ghost use Rattle.rule_table.specs.Places.{code_at, LaidAs};
 use checker::check;
 use documents::Refusal;
 
+mod each; // the rules of a table one by one
+
+use each::EachRule;
+
 pub const MOST_RULES: usize = 32;
 
-// Whether there are at most 32 rules, a cut one counted, which is the last.
+// Whether there are at most 32 rules, a cut one counted.
 pub fn few(rules: &[u32]) -> bool
     ensures { result ≡ leb (length (listed rules.now)) rule_limit }
 {
-    let mut at: usize = 0;
     let mut count: usize = 0;
-    // Kept (point 3): a rule is as long as its first word says, so the place goes on by that and not by one.
-    while at < rules.len() {
+    for _ in EachRule::of(rules) {
         if count == MOST_RULES {
             return false;
         }
         count += 1;
-        let words = rules[at] as usize;
-        if rules.len() - at - 1 < words {
-            return true;
-        }
-        at = at + 1 + words;
     }
     true
 }
@@ -38,18 +35,12 @@ pub fn lay(rules: &[u32], starts: &mut [usize; MOST_RULES]) -> Result<usize, Ref
     requires { (length (listed rules.now) ≤ rule_limit) × (length starts.old ≡ rule_limit) }
     ensures { LaidAs rules.now starts.new result }
 {
-    let mut at: usize = 0;
     let mut count: usize = 0;
-    // Kept (point 3): as above.
-    while at < rules.len() {
-        let words = rules[at] as usize;
-        if rules.len() - at - 1 < words {
-            return Err(Refusal::DoesNotPass);
-        }
-        check(code_at(rules, at))?;
-        starts[count] = at;
+    for rule in EachRule::of(rules) {
+        let start = rule?;
+        check(code_at(rules, start))?;
+        starts[count] = start;
         count += 1;
-        at = at + 1 + words;
     }
     Ok(count)
 }

@@ -46,6 +46,7 @@ pub fn write(
     let mut lambdas = place.lambdas;
     // Kept (point 6): no heap, so the nodes that wait stand in a lent table, and beside it how many they are.
     let mut kept = place.level;
+    // Kept (point 3): the walk goes down and up by links, and its places follow no range.
     loop {
         if left == 0 {
             if kept == place.level {

@@ -1,21 +1,23 @@
+use mathlib.Core.Path.{refl}
 use native.Mathlib.Omega.{arith}
-use Rattle.rule_table.proofs.Counting.{counted_none, all_counted, counted_more, too_many, cut_counted}
+use Rattle.rule_table.proofs.Counting.{counted_none, all_counted, counted_step, too_many}
 use Rattle.rule_table.proofs.few.Goals as goal
 
-pub loop-at-init : goal.loop-at-init
-loop-at-init c = counted_none _
+pub loop-init : goal.loop-init
+loop-init c = rw (c.into_iter-iterator.ensures.into_iter_gives, c.of-items.ensures.0, c.of-items.ensures.1) (refl, counted_none _)
 
 pub returns-then-count-eq-MOST_RULES : goal.returns-then-count-eq-MOST_RULES
-returns-then-count-eq-MOST_RULES c = too_many c.loop-at.invariant c.loop-at-test.true c.if-count-eq-MOST_RULES.true
+returns-then-count-eq-MOST_RULES c =
+    let l = c.loop.invariant in
+    too_many l.1 (rw l.0 at c.in-Some.ensures.steps.1.0) c.if-count-eq-MOST_RULES.true
 
-pub overflow_cast-words : goal.overflow_cast-words
-overflow_cast-words c = omega (arith, c.shared_slice_known-1.given c.loop-at.at)
-
-pub returns-then-rules-at : goal.returns-then-rules-at
-returns-then-rules-at c = cut_counted c.loop-at.invariant c.loop-at-test.true c.if-count-eq-MOST_RULES.false c.if-rules-at.true
-
-pub loop-at-preserved : goal.loop-at-preserved
-loop-at-preserved c = counted_more c.loop-at.invariant c.loop-at-test.true c.if-count-eq-MOST_RULES.false (omega arith)
+pub loop-preserved : goal.loop-preserved
+loop-preserved c =
+    let l = c.loop.invariant in
+    let p = c.in-Some.ensures.steps in
+    (rw p.0 l.0, counted_step _ _ l.1 c.if-count-eq-MOST_RULES.false (rw l.0 at p.1.0) (rw l.0 at p.1.1))
 
 pub returns : goal.returns
-returns c = all_counted c.loop-at.invariant c.loop-at-test.false
+returns c =
+    let l = c.loop.invariant in
+    all_counted l.1 (omega (arith, rw l.0 at c.in-None.ensures.steps.1.0))

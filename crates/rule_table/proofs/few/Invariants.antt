@@ -1,12 +1,7 @@
--- `rule_table::few`: the rules before a place and those behind it are all that are listed. The 33rd ends the count, and so does one that is cut
--- short, which is the last.
-use Prim.Native.Nat.{◌-◌}
-use lib.ListN.{length}
+-- `rule_table::few`: the rules before a place and those behind it are all that are listed. The 33rd ends the count.
+use mathlib.Core.Path.{◌≡◌}
 use Rattle.rule_table.proofs.Counting.{Counted}
 use Rattle.rule_table.proofs.few.Given as goal
 
-abbrev pub invariant-loop-at : goal.invariant-loop-at
-invariant-loop-at l = Counted l.rules l.at l.count
-
-abbrev pub decreases-loop-at : goal.decreases-loop-at
-decreases-loop-at l = length l.rules - l.at
+abbrev pub invariant-loop : goal.invariant-loop
+invariant-loop l = (l.iterator'.rules.now ≡ l.rules) × Counted l.rules l.iterator'.at l.count

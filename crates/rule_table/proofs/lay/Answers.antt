@@ -1,35 +1,35 @@
-use mathlib.Core.Path.{sym, ◌∙◌}
+use mathlib.Core.Path.{refl, sym, ◌∙◌}
 use native.Mathlib.Omega.{arith}
-use Rattle.rule_table.proofs.Laying.{laying_none, laid_all, laid_room, laid_cut, laid_refused, laid_more, passes_told}
+use Rattle.rule_table.proofs.Laying.{laying_none, laid_all, laid_cut, laid_refused, laid_more, passes_told}
 use Rattle.std.proofs.lemmas.Result.{err_from_is_err_and}
-use borrow.Author.Rules.{rules}
 use Rattle.rule_table.proofs.lay.Goals as goal
 
-pub loop-at-init : goal.loop-at-init
-loop-at-init c = laying_none _ _ c.requires.0 c.requires.1
+pub loop-rule-init : goal.loop-rule-init
+loop-rule-init c =
+    rw (c.into_iter-rule-iterator.ensures.into_iter_gives, c.of-rule-items.ensures.0, c.of-rule-items.ensures.1) (refl, laying_none _ _ c.requires.0 c.requires.1)
 
-pub overflow_cast-words : goal.overflow_cast-words
-overflow_cast-words c = omega (arith, c.shared_slice_known-in-loop-at-1.given c.loop-at.at)
+pub returns-in_err-start : goal.returns-in_err-start
+returns-in_err-start c =
+    let l = c.loop-rule.invariant in
+    let g = rw (l.0, c.in_err-start.was) at c.in-Some.ensures.steps.1 in
+    let p = err_from_is_err_and c.from_residual.result c.from_residual.ensures.1 in
+    rw (p.1, p.2, g.1.0) (laid_cut l.1 g.0 g.1.2)
 
-pub returns-then-rules-at : goal.returns-then-rules-at
-returns-then-rules-at c = laid_cut c.loop-at.invariant c.loop-at-test.true c.if-rules-at.true
-
-pub offset_bounds-starts-count : goal.offset_bounds-starts-count
-offset_bounds-starts-count c = let a = laid_room c.loop-at.invariant c.loop-at-test.true in search rules
-
-pub bounds-starts-count : goal.bounds-starts-count
-bounds-starts-count c = let a = laid_room c.loop-at.invariant c.loop-at-test.true in search rules
-
-pub overflow_add-count : goal.overflow_add-count
-overflow_add-count c = let a = laid_room c.loop-at.invariant c.loop-at-test.true in search rules
-
-pub loop-at-preserved : goal.loop-at-preserved
-loop-at-preserved c = laid_more c.loop-at.invariant c.loop-at-test.true (omega arith) (passes_told _ (rw c.code_at.ensures at (sym c.in_ok-check.was ∙ c.check.ensures)))
+pub loop-rule-preserved : goal.loop-rule-preserved
+loop-rule-preserved c =
+    let l = c.loop-rule.invariant in
+    let p = c.in-Some.ensures.steps in
+    let g = rw (l.0, c.in_ok-start.was) at p.1 in
+    (rw p.0 l.0, rw (g.1.0, g.1.1) (laid_more l.1 g.0 (rw g.1.1 at g.1.2) (passes_told _ (rw (c.code_at.ensures, g.1.0) at (sym c.in_ok-check.was ∙ c.check.ensures)))))
 
 pub returns-in_err-check : goal.returns-in_err-check
 returns-in_err-check c =
-    let p = err_from_is_err_and c.from_residual.result c.from_residual.ensures.1 in
-    rw (p.1, p.2) (laid_refused c.loop-at.invariant c.loop-at-test.true (omega arith) _ (cc (c.in_err-check.was, c.check.ensures, c.code_at.ensures)))
+    let l = c.loop-rule.invariant in
+    let g = rw (l.0, c.in_ok-start.was) at c.in-Some.ensures.steps.1 in
+    let p = err_from_is_err_and c.from_residual-in_err-check.result c.from_residual-in_err-check.ensures.1 in
+    rw (p.1, p.2) (laid_refused l.1 g.0 (rw g.1.1 at g.1.2) _ (cc (c.in_err-check.was, c.check.ensures, c.code_at.ensures, g.1.0)))
 
 pub returns : goal.returns
-returns c = laid_all c.loop-at.invariant c.loop-at-test.false
+returns c =
+    let l = c.loop-rule.invariant in
+    laid_all l.1 (omega (arith, rw l.0 at c.in-None.ensures.steps.1.0))
