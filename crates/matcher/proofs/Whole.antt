@@ -87,16 +87,6 @@ module _ (entries : List ℕ) (op made top : ℕ) where
   pub entered_top : op ≡ 4 → (set entries made top ≡ entries_after op entries made top) × (made + 1 ≡ made_after op made)
   entered_top e = (rw (eq-eqb op 4 e), rw (eq-eqb op 4 e))
 
--- what was moved to, with the number of entries in the code's form
-module _ {code part entries : List ℕ} {at top current made : ℕ} (m : Midway code part entries at top current made) {p top' current' : ℕ} where
-  pub kept : (get_or code at 0 ≡ 4 → ⊥) → Moves m (entries_after (get_or code at 0) entries made top) (made_after (get_or code at 0) made) p top' current'
-      → Moves m (entries_after (get_or code at 0) entries made top) made p top' current'
-  kept n s = rw (ne_eqb (get_or code at 0) 4 n) (rw (ne_eqb (get_or code at 0) 4 n) at s)
-
-  pub counted : get_or code at 0 ≡ 4 → Moves m (entries_after (get_or code at 0) entries made top) (made_after (get_or code at 0) made) p top' current'
-      → Moves m (entries_after (get_or code at 0) entries made top) (made + 1) p top' current'
-  counted e s = rw (eq-eqb (get_or code at 0) 4 e) (rw (eq-eqb (get_or code at 0) 4 e) at s)
-
 pub moved : (rest : Program) (i : Instruction) (c : Program) (σ τ : State) → rest ≡ i ▸ c → exec i σ ≡ done τ → exec rest σ ≡ exec c τ
 moved rest i c σ τ e f = rw (e, f)
 
@@ -121,9 +111,8 @@ module _ {code part entries : List ℕ} {at top current made : ℕ} (g : Going c
 -- a step of it
 module _ {code part entries : List ℕ} {here : Standing} (g : Going code part entries here.at here.top here.current here.made) {r : Result Standing Refusal}
     (s : Steps code part entries here r) where
-  -- whatever the table of entries holds then
-  pub going_refused : (new : List ℕ) (w : Refusal) → r ≡ Err w → Comes code part new (Err MatchFails)
-  going_refused new w e = record {
+  pub going_refused : (w : Refusal) → r ≡ Err w → Comes code part entries (Err MatchFails)
+  going_refused w e = record {
     means = λ c d.
         let f : Fails g.midway w = rw e at (s.means g.midway) in
         (refl, g.goes c d ∙ failed g.midway.rest f.i f.c _ f.begins f.goes);
@@ -133,7 +122,7 @@ module _ {code part entries : List ℕ} {here : Standing} (g : Going code part e
   refused_why w e = let f : Fails g.midway w = rw e at (s.means g.midway) in f.why
 
   module _ {next : Standing} (e : r ≡ Ok next) where
-    to : Moves g.midway (entries_after (get_or code here.at 0) entries here.made here.top) next.made next.at next.top next.current
+    to : Moves g.midway (entries_after (get_or code here.at 0) entries here.made here.top) (made_after (get_or code here.at 0) here.made) next.at next.top next.current
     to = rw e at (s.means g.midway)
 
     pub going_later : here.at < next.at
@@ -142,8 +131,9 @@ module _ {code part entries : List ℕ} {here : Standing} (g : Going code part e
     pub going_inside : next.at < length code
     going_inside = to.next.inside
 
-    pub going_next : {new : List ℕ} → new ≡ entries_after (get_or code here.at 0) entries here.made here.top → Going code part new next.at next.top next.current next.made
-    going_next e = rw e (going_on g to)
+    pub going_next : {new : List ℕ} {n : ℕ} → new ≡ entries_after (get_or code here.at 0) entries here.made here.top → n ≡ made_after (get_or code here.at 0) here.made
+        → Going code part new next.at next.top next.current n
+    going_next e f = rw (e, f) (going_on g to)
 
 -- ---- the build part
 

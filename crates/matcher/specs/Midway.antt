@@ -92,7 +92,7 @@ module _ {code part entries : List ℕ} {at top current made : ℕ} (m : Midway 
     pub why : w ≡ MatchFails
 
   abbrev pub After : Result Standing Refusal → Type 0
-  After (Ok s) = Moves (entries_after (get_or code at 0) entries made top) s.made s.at s.top s.current
+  After (Ok s) = Moves (entries_after (get_or code at 0) entries made top) (made_after (get_or code at 0) made) s.at s.top s.current
   After (Err w) = Fails w
 
   -- a test goes on at a place, with the same entries and current terms

@@ -3,9 +3,9 @@
 // at a word place of the part, and there are so many of them. An entry is the word place of its subterm.
 #![tactic(auto)]
 
-ghost use Rattle.std.specs.Prelude.{◌≡◌, true, ◌≤◌, length, get_or};
+ghost use Rattle.std.specs.Prelude.{◌≡◌, true, ◌≤◌, ◌<◌, ◌^◌, IfOk, length, get_or};
 ghost use Rattle.documents.specs.Passing.{passes};
-ghost use Rattle.matcher.specs.Midway.{Midway, Steps, Tests, entries_after};
+ghost use Rattle.matcher.specs.Midway.{Midway, Steps, Tests, entries_after, made_after};
 ghost use Rattle.matcher.specs.Ready.{Begins, Comes};
 
 use documents::Refusal;
@@ -51,7 +51,9 @@ pub fn match_part(code: &[u32], part: &[u32], entries: &mut [u32]) -> Result<Mat
     let mut here = Standing::START;
     // Kept (point 3): the next instruction stands where the step says, and not one further.
     while code[here.at] <= EQI {
-        here = step(code, part, entries, here)?;
+        let next = step(code, part, entries, here)?;
+        let made = enter(entries, here.made, code[here.at], here.top);
+        here = Standing { made, ..next };
     }
     Ok(Matched {
         build: here.at,
@@ -60,16 +62,28 @@ pub fn match_part(code: &[u32], part: &[u32], entries: &mut [u32]) -> Result<Mat
     })
 }
 
-// One match instruction. A SET enters the top, behind the entries that there are.
+// A SET enters the top, behind the entries that there are; gives their number.
+pub fn enter(entries: &mut [u32], made: usize, op: u32, top: usize) -> usize
+    requires { (op ≡ 4 → made < length entries.old) × (top < 2 ^ 32) }
+    ensures { (entries.new ≡ entries_after op entries.old made top) × (result ≡ made_after op made) }
+{
+    if op != SET {
+        return made;
+    }
+    entries[made] = top as u32;
+    made + 1
+}
+
+// One match instruction, but for what a SET enters: so many entries as before.
 pub fn step(
     code: &[u32],
     part: &[u32],
-    entries: &mut [u32],
+    entries: &[u32],
     here: Standing,
 ) -> Result<Standing, Refusal>
-    requires { Midway code.now part.now entries.old here.at here.top here.current here.made × (get_or code.now here.at 0 ≤ 7) }
-    ensures steps { Steps code.now part.now entries.old here result }
-    ensures enters { entries.new ≡ entries_after (get_or code.now here.at 0) entries.old here.made here.top }
+    requires { Midway code.now part.now entries.now here.at here.top here.current here.made × (get_or code.now here.at 0 ≤ 7) }
+    ensures steps { Steps code.now part.now entries.now here result }
+    ensures keeps { IfOk result (λ next. next.made ≡ here.made) }
 {
     let Standing {
         at,
@@ -109,12 +123,7 @@ pub fn step(
         });
     }
     if op == SET {
-        entries[made] = top as u32;
-        return Ok(Standing {
-            at: at + 1,
-            made: made + 1,
-            ..here
-        });
+        return Ok(Standing { at: at + 1, ..here });
     }
     let next = test(code, part, entries, here)?;
     Ok(Standing { at: next, ..here })

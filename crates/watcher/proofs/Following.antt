@@ -33,7 +33,7 @@ use Rattle.safety.proofs.NeverStuck.{passing_obeys}
 use Rattle.safety.proofs.Counts.{total, length_laid}
 use Rattle.checker.specs.Matched.{verdict}
 use Rattle.checker.proofs.Matching.{not_passed}
-use Rattle.matcher.specs.Midway.{Any, in_line, entered, Midway, state_of, entries_after, Moves, Fails, Steps}
+use Rattle.matcher.specs.Midway.{Any, in_line, entered, Midway, state_of, entries_after, made_after, Moves, Fails, Steps}
 use Rattle.matcher.proofs.Parts.{begins_whole}
 use Rattle.matcher.proofs.Whole.{midway_start, start_is, start_rest, begins_build, build_state}
 use Rattle.watcher.specs.Watching.{as_watched}
@@ -116,11 +116,11 @@ module _ {code subject entries : List ℕ} {i left : ℕ} {here : Standing} (f :
       let x : Fails f.midway w = rw e at (s.means f.midway) in
       (x.why, ap as_watched (sym (watch_fails_lem code subject i p a (f.goes _ (passing_obeys code (T_of _ p)).1 ∙ first_failed f.midway.rest x.i x.c _ left x.begins x.goes h))))
 
-  pub following_next : {next : Standing} (e : r ≡ Ok next) {new : List ℕ} {n : ℕ} → 0 < left → n ≡ left - 1 → new ≡ entries_after (get_or code here.at 0) entries here.made here.top
-      → Following code subject new i next.at next.top next.current next.made n
-  following_next {next} e h k z =
-      let to : Moves f.midway (entries_after (get_or code here.at 0) entries here.made here.top) next.made next.at next.top next.current = rw e at (s.means f.midway) in
-      rw (k, z) (following_on f to h)
+  pub following_next : {next : Standing} (e : r ≡ Ok next) {new : List ℕ} {made n : ℕ} → 0 < left → n ≡ left - 1 → new ≡ entries_after (get_or code here.at 0) entries here.made here.top
+      → made ≡ made_after (get_or code here.at 0) here.made → Following code subject new i next.at next.top next.current made n
+  following_next {next} e h k z x =
+      let to : Moves f.midway (entries_after (get_or code here.at 0) entries here.made here.top) (made_after (get_or code here.at 0) here.made) next.at next.top next.current = rw e at (s.means f.midway) in
+      rw (k, z, x) (following_on f to h)
 
 module _ {code subject entries : List ℕ} {i at top owed made left : ℕ} (f : Following code subject entries i at top owed made left) where
   -- ---- the counts

@@ -15,7 +15,7 @@ use checker::check;
 use documents::Refusal;
 use documents::op::EQI;
 use instructions::limit::MOST_ENTRIES;
-use matcher::{Standing, step};
+use matcher::{Standing, enter, step};
 use tables::accept::accept_subject;
 
 // Current terms, entries, finished terms, and the node number of the current term, the subject's node count if there is none.
@@ -53,7 +53,9 @@ fn follow(code: &[u32], subject: &[u32], i: u32) -> Result<Counts, Refusal>
                 node: (here.top / 2) as u32,
             });
         }
-        here = step(code, subject, &mut entries, here)?;
+        let next = step(code, subject, &entries, here)?;
+        let made = enter(&mut entries, here.made, code[here.at], here.top);
+        here = Standing { made, ..next };
     }
     Ok(Counts {
         current: here.current as u32,

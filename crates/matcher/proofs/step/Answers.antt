@@ -1,9 +1,8 @@
 -- `matcher::step`: each way through is one law of its opcode; the words that are looked at are there, since the code passes and a term is current.
 use native.Mathlib.Omega.{arith}
-use Rattle.matcher.proofs.Opcodes.{is_name, is_count, is_other, is_fewer, is_moves, abst_other, abst_moves, next_moves, next_room, next_begins, set_moves, top_low, enters}
+use Rattle.matcher.proofs.Opcodes.{is_name, is_count, is_other, is_fewer, is_moves, abst_other, abst_moves, next_moves, next_room, next_begins, set_moves}
 use Rattle.matcher.proofs.Stepping.{bounds, reads_is, reads_isabst, reads_next}
 use borrow.Author.Rules.{rules}
-use Rattle.matcher.proofs.Whole.{kept, counted}
 use Rattle.matcher.proofs.step.Goals as goal
 use Rattle.matcher.proofs.step.Goals.{then-part-top-via-then-part-top, then-part-top-via-else-part-top+then-part-top-2}
 
@@ -44,7 +43,7 @@ pub overflow_add-result-then-op-eq-IS-3 : goal.overflow_add-result-then-op-eq-IS
 overflow_add-result-then-op-eq-IS-3 c = let b = is_count c.requires.0 c.if-op-eq-IS.true in let d = c.requires.0.many in search rules
 
 pub returns-then-op-eq-IS-clause-steps : goal.returns-then-op-eq-IS-clause-steps
-returns-then-op-eq-IS-clause-steps c = record { means = λ m. kept m (omega arith) (is_moves m c.if-op-eq-IS.true c.if-part-top.false c.if-part-top-2.false) }
+returns-then-op-eq-IS-clause-steps c = record { means = λ m. is_moves m c.if-op-eq-IS.true c.if-part-top.false c.if-part-top-2.false }
 
 pub bounds-part-top-then-op-eq-ISABST : goal.bounds-part-top-then-op-eq-ISABST
 bounds-part-top-then-op-eq-ISABST c = let b = bounds c.requires.0 (reads_isabst c.requires.0 c.if-op-eq-ISABST.true) in search rules
@@ -56,7 +55,7 @@ pub overflow_add-result-then-op-eq-ISABST-2 : goal.overflow_add-result-then-op-e
 overflow_add-result-then-op-eq-ISABST-2 c = let b = bounds c.requires.0 (reads_isabst c.requires.0 c.if-op-eq-ISABST.true) in search rules
 
 pub returns-then-op-eq-ISABST-clause-steps : goal.returns-then-op-eq-ISABST-clause-steps
-returns-then-op-eq-ISABST-clause-steps c = record { means = λ m. kept m (omega arith) (abst_moves m c.if-op-eq-ISABST.true c.if-part-top-ne-ABSTRACTION.false) }
+returns-then-op-eq-ISABST-clause-steps c = record { means = λ m. abst_moves m c.if-op-eq-ISABST.true c.if-part-top-ne-ABSTRACTION.false }
 
 pub slice_bounds-skip-count : goal.slice_bounds-skip-count
 slice_bounds-skip-count c = let b = bounds c.requires.0 (reads_next c.requires.0 c.if-op-eq-NEXT.true) in search rules
@@ -74,10 +73,10 @@ pub overflow_sub-result-then-op-eq-NEXT : goal.overflow_sub-result-then-op-eq-NE
 overflow_sub-result-then-op-eq-NEXT c = let b = bounds c.requires.0 (reads_next c.requires.0 c.if-op-eq-NEXT.true) in search rules
 
 pub returns-then-op-eq-NEXT-clause-steps : goal.returns-then-op-eq-NEXT-clause-steps
-returns-then-op-eq-NEXT-clause-steps c = record { means = λ m. kept m (omega arith) (next_moves m c.if-op-eq-NEXT.true _ c.skip.ensures) }
+returns-then-op-eq-NEXT-clause-steps c = record { means = λ m. next_moves m c.if-op-eq-NEXT.true _ c.skip.ensures }
 
 pub returns-then-op-eq-SET-clause-steps : goal.returns-then-op-eq-SET-clause-steps
-returns-then-op-eq-SET-clause-steps c = record { means = λ m. counted m c.if-op-eq-SET.true (set_moves m c.if-op-eq-SET.true) }
+returns-then-op-eq-SET-clause-steps c = record { means = λ m. set_moves m c.if-op-eq-SET.true }
 
 pub test-requires : goal.test-requires
 test-requires c = (c.requires.0, omega arith, c.requires.1, c.if-op-eq-SET.false)
@@ -88,11 +87,5 @@ bounds-part-top-else-part-top c = let b = bounds c.requires.0 (reads_is c.requir
 pub bounds-code-at-else-part-top : goal.bounds-code-at-else-part-top
 bounds-code-at-else-part-top c = let b = bounds c.requires.0 (reads_is c.requires.0 c.if-op-eq-IS.true) in search rules
 
-pub overflow_cast-entries : goal.overflow_cast-entries
-overflow_cast-entries c = let b = top_low c.requires.0 in search rules
-
-pub bounds-entries-made : goal.bounds-entries-made
-bounds-entries-made c = let b = enters c.requires.0 c.if-op-eq-SET.true in search rules
-
 pub returns-clause-steps : goal.returns-clause-steps
-returns-clause-steps c = record { means = λ m. kept m c.if-op-eq-SET.false (rw c.in_ok-next.was at (c.test.ensures.means m)) }
+returns-clause-steps c = record { means = λ m. rw c.in_ok-next.was at (c.test.ensures.means m) }
