@@ -1,7 +1,7 @@
 // One rewrite within a plan: the redex, and what stands behind it, are copied aside, and what the rule makes of the redex is written in its place.
 #![tactic(auto)]
 
-ghost use Rattle.std.specs.Prelude.{◌≡◌, ◌++◌, ◌+◌, ◌-◌, ◌*◌, ◌≤◌, length, take, drop};
+ghost use Rattle.std.specs.Prelude.{◌≡◌, ◌++◌, ◌+◌, ◌-◌, ◌*◌, ◌≤◌, IfErr, length, take, drop};
 ghost use Rattle.documents.specs.Terms.{Term};
 ghost use Rattle.documents.specs.Tables.{table_of, nodes};
 ghost use Rattle.writer.specs.Written.{Wrote};
@@ -57,7 +57,8 @@ pub fn replace(
     work: &mut [u32],
 ) -> Result<(), Refusal>
     requires { Replacing code.now redex entries.now plan.old.table plan.old.words most work.old }
-    ensures { Replaces code.now redex entries.now plan.old.table plan.new.table plan.old.words plan.new.words most work.old work.new result }
+    ensures replaces { Replaces code.now redex entries.now plan.old.table plan.new.table plan.old.words plan.new.words most work.old work.new result }
+    ensures stays { IfErr result (λ _. plan.new ≡ plan.old) }
 {
     let weighed = weigh_redex(code, redex, entries, plan, most, work)?;
     exchange(code, redex, entries, plan, work, weighed);

@@ -9,4 +9,4 @@ pub replace-requires : goal.replace-requires
 replace-requires c = rw c.code.ensures c.requires.replacing
 
 pub returns : goal.returns
-returns c = rw c.code.ensures at c.replace.ensures
+returns c = rw c.code.ensures at c.replace.ensures.replaces

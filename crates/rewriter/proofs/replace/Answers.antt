@@ -5,8 +5,8 @@ use Rattle.std.proofs.lemmas.Result.{err_from_is_err_and}
 use Rattle.rewriter.proofs.NextPlan.{refuses, next_fits, exchanging, replaces}
 use Rattle.rewriter.proofs.replace.Goals as goal
 
-pub returns-in_err-weighed : goal.returns-in_err-weighed
-returns-in_err-weighed c =
+pub returns-in_err-weighed-clause-replaces : goal.returns-in_err-weighed-clause-replaces
+returns-in_err-weighed-clause-replaces c =
     let q = err_from_is_err_and c.from_residual.result c.from_residual.ensures.1 in
     rw (q.1 ∙ ap Err q.2) (refuses c.requires c.weigh_redex.ensures c.in_err-weighed.was)
 
@@ -25,5 +25,5 @@ overflow_add-plan c = let h = next_fits c.requires c.weigh_redex.ensures c.in_ok
 pub invariant_of-plan : goal.invariant_of-plan
 invariant_of-plan c = let h = next_fits c.requires c.weigh_redex.ensures c.in_ok-weighed.was in let e = c.exchange.ensures.words in omega arith
 
-pub returns : goal.returns
-returns c = rw c.exchange.ensures.words (replaces c.requires c.weigh_redex.ensures c.in_ok-weighed.was c.exchange.ensures.tables)
+pub returns-clause-replaces : goal.returns-clause-replaces
+returns-clause-replaces c = rw c.exchange.ensures.words (replaces c.requires c.weigh_redex.ensures c.in_ok-weighed.was c.exchange.ensures.tables)
