@@ -49,6 +49,7 @@ pub fn search(
     requires { (cs : List Program) × SearchingIn rules plan.now from above.old entries.old 0 cs }
     ensures finds { FindsIn rules.entry plan.now from above.old above.new entries.old entries.new 0 result }
     ensures level { IfSome result (λ redex. above.new.level ≡ redex.level) }
+    ensures stays { IfNone result (above.new ≡ above.old) }
 {
     let found = search_above(rules, plan, from, above, entries);
     if found.is_some() {
@@ -94,6 +95,7 @@ fn search_from(
     requires { (cs : List Program) × SearchingIn rules plan.now from above.old entries.old from cs }
     ensures finds { FindsIn rules.entry plan.now from above.old above.new entries.old entries.new from result }
     ensures level { IfSome result (λ redex. above.new.level ≡ redex.level) }
+    ensures stays { IfNone result (above.new ≡ above.old) }
 {
     for node in from..plan.len() / 2 {
         let set = rules.buckets.candidates(plan, 2 * node);
