@@ -8,6 +8,7 @@ use documents::Refusal;
 use list_run::Ended;
 
 // 01's number where nothing is refused.
+// Kept (point 1): C's answers are numbers.
 pub const DONE: u32 = 0;
 
 // The C header calls it reed_read_answer.
@@ -88,7 +89,7 @@ impl From<Result<u32, Refusal>> for ReedAnswer {
     }
 }
 
-// A function, for neither a `Result` nor a number is a type of ours that could have a `From`.
+// Kept (point 4): a function, for neither a `Result` nor a number is a type of ours that could have a `From`.
 pub fn of_check(answer: Result<(), Refusal>) -> u32
     ensures { result ≡ of_check answer }
 {

@@ -75,6 +75,7 @@ fn asked_behind(code: &[u32]) -> Option<usize>
 }
 
 // The sets for a root, and those for the node behind it.
+// Kept (point 6): no heap; a set of the rules is a word, found by what a node begins with.
 #[derive(Drop)]
 pub struct Buckets {
     pub roots: [u32; MASKS],

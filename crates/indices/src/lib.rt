@@ -1,4 +1,5 @@
 // Sets of indices below 64, a bit for each.
+// Kept (point 5): 01 wants the guards in one flat array by value (docs/PROMISES.md, last table), whose words a type of a set would wrap at each use.
 #![tactic(auto)]
 
 ghost use Rattle.std.specs.Prelude.{◌≡◌, true, ◌≤◌};

@@ -36,6 +36,7 @@ pub fn all_known(right: &[u32], left: &[u32]) -> bool
 }
 
 // The keys of a side's metavariables, at the front of the table.
+// Kept (point 3): the count goes up at some nodes only, and is the answer.
 fn put_keys(part: &[u32], keys: &mut [u32]) -> usize
     requires { Begins 1 part.now × (length part.now ≤ 512) × (length keys.old ≡ 256) }
     ensures { Keyed (front part.now) keys.new result }
@@ -65,7 +66,8 @@ fn all_among(right: &mut [u32], left: &mut [u32], place: u32) -> bool
 }
 
 // Brings those keys to the front whose bit at a place is 0, and says how many there are.
-// Kept (point 3): `low` and `high` approach each other and only one of them moves in a turn, which no `for` says; the library parts no slice.
+// Kept (point 3): `low` and `high` approach each other and only one of them moves in a turn, which no `for` says; the library parts no
+// slice, and to sort both sides of many keys by `sort_unstable` costs them a factor of their logarithm where this costs the bits of a key.
 fn part(keys: &mut [u32], place: u32) -> usize
     requires { place < 20 }
     ensures { Parted place keys.old keys.new result }

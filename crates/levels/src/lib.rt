@@ -24,6 +24,7 @@ pub fn node_of(word: u32) -> usize
 }
 
 // The words, and how many of them stand above the node at hand, which is its level.
+// Kept (points 4, 6): no heap; and a word for two numbers, since these stand in the frame of a call, where stack is scarce.
 #[derive(Drop)]
 pub struct Levels {
     pub words: [u32; LEVELS],

@@ -1,5 +1,6 @@
 // What the working table holds of a build instruction that made a term, a word at the place of its opcode, and of a body that was measured, a word
 // behind that of its root.
+// Kept (point 6): no heap; the places of the code are the indices, and C lends the table.
 ghost use Rattle.std.specs.Prelude.{◌≡◌, ◌<◌, ◌≤◌};
 ghost use Rattle.links.specs.Links.{link_of, before_in, over_in, depth_in, note_of, nodes_in, reach_in};
 

@@ -48,6 +48,7 @@ pub fn list_run(
 }
 
 // All but that the working table is left as it is: 37, 16, 11.
+// Kept (point 5): as in runner, what C lends goes on as it was lent.
 fn begin(
     rules: &[u32],
     subject: &[u32],
@@ -140,6 +141,7 @@ fn turns(
     // Kept (point 6): no heap; room for the most entries, lent to the match part, which says how many it made.
     let mut entries = [0u32; MOST_ENTRIES];
     let mut node: usize = 0;
+    // Kept (point 3): a `for` over the rewrites would have an end behind it that is never reached.
     let mut made: u32 = 0;
     while let Some(redex) = search(rules, plan.part(), node, &mut above, &mut entries) {
         if made == rewrites {

@@ -50,6 +50,7 @@ pub fn measure(walk: &Walk, from: usize, end: usize, work: &mut [u32]) -> Option
     let mut sum: usize = 0;
     let mut farthest: u32 = 0;
     // Kept (point 3): no other loop goes over instructions so; an iterator would hold code, place and end for this one, and read each opcode twice.
+    // Kept (point 7): as in matcher's step, an opcode has a test of its own.
     while at < end {
         let op = code[at];
         if op == LAMBDA {
@@ -82,6 +83,7 @@ pub fn measure(walk: &Walk, from: usize, end: usize, work: &mut [u32]) -> Option
 }
 
 // What reaches so far, under so many abstractions of an entry.
+// Kept (point 1): a reach stands in a word of C's working table, in which 0 is none.
 fn shifted(reach: u32, inside: u32) -> u32
     requires { (reach < 524288) × (inside < 256) }
     ensures { result ≡ further inside reach }
@@ -173,6 +175,7 @@ fn forget(code: &[u32], bodies: usize, count: u32, work: &mut [u32])
 //
 // A place is a depth times LEVEL, and abstractions below that: the highest place has the greatest depth, so that one division does for all nodes. What
 // is deeper through bodies is kept apart.
+// Kept (point 3): the nodes are asked for behind the loop too, where an `enumerate` is gone.
 #[cycle(free_measure_push_spread)]
 fn spread(walk: &Walk, push: Push, part: &[u32], places: usize, work: &mut [u32]) -> Option<Span>
     requires { AsksSpread walk.now.given.code.now push.at push.count part.now places walk.now.given.subject.now walk.now.given.entries.now work.old }

@@ -29,6 +29,7 @@ pub const LINE_BYTES: usize = NUMBER_BYTES * (2 + RESULT_WORDS);
 pub fn line_for(file: &[u8], line: &mut [u8; LINE_BYTES]) -> usize
     ensures { Wrote line.old line.new 0 result (line_of (plan_apply file.now)) × Counts result line.new }
 {
+    // Kept (point 6): no heap, and tables of the sizes that 01 asks for.
     let mut left = [0u32; SIDE_WORDS];
     let mut right = [0u32; SIDE_WORDS];
     let mut subject = [0u32; SUBJECT_WORDS];

@@ -125,7 +125,8 @@ fn put_each(file: &[u8], at: usize, table: &mut [u32])
     }
 }
 
-// The same, vector by vector. Since the compiler is not told that a table is no part of the file, it would begin a loop over single words with a
+// The same, vector by vector.
+// Kept (point 2): since the compiler is not told that a table is no part of the file, it would begin a loop over single words with a
 // comparison of the addresses, which costs small files a fifth of their instructions (docs/BENCHMARKS.md, 'Reading a file').
 fn put_vectors(file: &[u8], at: usize, table: &mut [u32])
     requires { (at + 4 * length table.old ≤ length file.now) × (length table.old % 4 ≡ 0) }

@@ -1,5 +1,5 @@
-// The calls of the C interface: each hands its slices on to the crate that does the work, and gives the answer back as 01's numbers. `reedbiscuit_c` exports
-// them to C.
+// The calls of the C interface: each hands its slices on to the crate that does the work, and gives the answer back as 01's numbers.
+// Kept (point 2): `reedbiscuit_c` exports the same calls to C, and an exported name is a function of its own (docs/PORT.md).
 #![tactic(auto)]
 
 ghost use Rattle.reedbiscuit.specs.Answers.{Reads, Compiles, Checks, Runs, ListRuns, Watches};

@@ -32,6 +32,7 @@ pub struct Redex {
 }
 
 // A plan: so many words at the front of a table of its own.
+// Kept (point 6): no heap.
 #[derive(Drop)]
 pub struct Plan {
     pub table: [u32; PLAN_WORDS],

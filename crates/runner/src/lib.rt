@@ -29,6 +29,7 @@ pub fn run(code: &[u32], subject: &[u32], work: &mut [u32], res: &mut [u32]) -> 
 }
 
 // All but that the working table is left as it is: 16, 11, and the subject's refusals.
+// Kept (point 5): what C lends goes on as it was lent, since two tables are read and two are written, each by another call.
 fn apply(code: &[u32], subject: &[u32], work: &mut [u32], res: &mut [u32]) -> Result<u32, Refusal>
     ensures { Applied code.now subject.now work.old work.new res.old res.new result }
 {

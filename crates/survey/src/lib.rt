@@ -15,6 +15,7 @@ use tables::node::{
 };
 
 // A level of the walk is one word: how many terms are owed there, times this, and the place of their roots.
+// Kept (point 4): the walk adds and compares such words whole, which a type of two numbers would take apart and put together at each node.
 pub const TERM: u32 = 65536;
 
 // A level further in, and there an abstraction besides.

@@ -87,6 +87,7 @@ pub fn enter_all(part: &[u32], under: u32, table: &mut SymbolTable) -> Option<En
 }
 
 // An abstraction or a metavariable, whose own two words the caller has gone over.
+// Kept (point 5): the node changes from call to call, the table is one, and `under` goes up by one at an abstraction: no two of them stay together.
 #[cycle(enter_all_enter_term)]
 fn enter_term(node: Node, under: u32, table: &mut SymbolTable) -> Option<Entered>
     requires { Enterable (part_at node) under × (131072 ≤ node.word) }

@@ -9,6 +9,7 @@ ghost use Rattle.symbols.specs.Rows.{rows_in};
 use crate::{ABOVE, ARGUMENTS, COUNT, ROW_WORDS, TABLE_WORDS};
 
 // Room for sixteen rows, filled from the end: those from word `first` on are there.
+// Kept (point 6): no heap.
 #[derive(Drop)]
 pub struct SymbolTable {
     words: [u32; TABLE_WORDS],

@@ -19,13 +19,17 @@ use tables::compare::D_SHIFT;
 use tables::node::{ABSTRACTION, FIRST_SYMBOL};
 
 // Where the nodes above begin, in the lent table whose first words hold OFFSET at each open LAMBDA.
+// Kept (point 6): no heap; both stacks stand in one lent table, since each table more is an argument more of the whole cycle.
 const ABOVE_AT: usize = 64;
 
 // A node above is its place in the code times this, and how many trees are to be written before it.
+// Kept (point 4): two numbers in a word, packed at one place and taken apart at one; a type as `links::Link` would be longer than these.
 const TREES: u32 = 16;
 
 // The tree whose root is given, before a place of the result. Answers where it begins. `opened` holds OFFSET at each open LAMBDA. The last tree that a
 // node takes is written first, the node itself after the first of them; until then it waits in `opened`. So only a body takes a call.
+// Kept (points 5, 7): two tables are written and one is read, each lent on by itself, so a struct of them would be lent, taken apart and put together
+// at each call of the cycle; and the kinds of instruction are told by one test each, as in matcher's step.
 #[cycle(write_write_entry_write_free_write_leaf)]
 pub fn write(
     given: &Given,
@@ -202,6 +206,7 @@ fn moves_nothing(code: &[u32], at: usize, offset: u32) -> bool
 }
 
 // Words as they are.
+// Kept (point 2): rewriter's `copy` writes to the front and this one before a place; one for both would be a crate for two lines.
 fn copy(part: &[u32], res: &mut [u32], end: usize) -> usize
     requires { (length part.now ≤ end) × (end ≤ length res.old) }
     ensures { Wrote res.old res.new result end part.now }
