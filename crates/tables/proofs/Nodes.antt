@@ -8,11 +8,11 @@ use denote.Ref.{Bor}
 use Rattle.documents.specs.Terms.{Terms, Nil}
 use Rattle.tables.specs.declared.walk.Node.{Node}
 use Rattle.tables.specs.declared.walk.Nodes.{Nodes}
-use Rattle.tables.specs.Parts.{terms, front, Begins}
+use Rattle.tables.specs.Parts.{terms, front, Begins, word_count}
 use Rattle.tables.specs.Nodes.{Stands, starts, part_at, is_metavariable, node_gives, goes_past, owes}
 use Rattle.tables.specs.Side.{distinct}
 use Rattle.tables.proofs.Parts.{two}
-use Rattle.tables.proofs.Walks.{Walk, walk_at, ended}
+use Rattle.tables.proofs.Walks.{Walk, walk_at, ended, Walking, walking_from, walking_on, walking_ended}
 use Rattle.tables.proofs.Sides.{metas_front, metas_here, metas_behind, simple_front, simple_here, simple_behind}
 
 pub metavariable_range : {w : ℕ} → is_metavariable w ≡ true → (131072 ≤ w) × (w < 196608)
@@ -73,6 +73,26 @@ module _ {part : List ℕ} (s t : Nodes) (n : Node) (whole : s.part.now ≡ part
 
     pub owed_past : u.owed ≡ s.owed - 1
     owed_past = let o = g.1.5 in let b = f.2 in omega arith
+
+-- ---- A walk of the subterm that a part begins with, and of nothing else
+
+pub record Going (part : List ℕ) (s : Nodes) : Type 0 where
+  pub whole : s.part.now ≡ part
+  pub walk : Walking part s.owed s.at
+
+pub going_from : {part : List ℕ} (s : Nodes) → Begins 1 part → starts part s → Going part s
+going_from s b h = record { whole = h.0; walk = rw (h.1, h.2) (walking_from b) }
+
+pub going_on : {part : List ℕ} (s t : Nodes) (n : Node) → Going part s → node_gives s (Some n) t → Going part t
+going_on s t n w g = record {
+  whole = whole_on s t n w.whole w.walk.walk g;
+  walk = rw (g.1.4, owed_on s t n w.whole w.walk.walk g) (walking_on w.walk g.1.0);
+}
+
+pub going_ended : {part : List ℕ} (s t : Nodes) → Going part s → node_gives s None t → t.at ≡ word_count (front part)
+going_ended s t w g = ap (λ (z : Nodes). z.at) g.1.1 ∙ walking_ended w.walk (omega arith)
+
+-- ---- Metavariables
 
 pub metas_first : (part : List ℕ) (s : Nodes) → Begins 1 part → starts part s → metas (owes s) ≡ metas (front part)
 metas_first part s b h = ap (λ (ts : Terms). metas ts) (owes_first part s h) ∙ metas_front b

@@ -164,14 +164,6 @@ module _ {part : List ℕ} {owed at : ℕ} (w : Walking part owed at) (h : 0 < o
     room = w.room;
   }
 
-  -- past the last node that is owed: its arguments are then
-  pub walking_last : owed ≡ 1 → Walking part (get_or part (at + 1) 0) (at + 2)
-  walking_last e = let z : owed - 1 + get_or part (at + 1) 0 ≡ get_or part (at + 1) 0 = omega arith in rw z at walking_on
-
-  -- past a leaf, which is whole
-  pub walking_leaf : get_or part (at + 1) 0 ≡ 0 → Walking part (owed - 1) (at + 2)
-  walking_leaf e = let z : owed - 1 + get_or part (at + 1) 0 ≡ owed - 1 = omega arith in rw z at walking_on
-
   -- past whole terms, of m nodes
   walking_past : (m next : ℕ) → nodes (terms owed (drop at part)) ≡ m + nodes (terms (owed - 1) (drop next part)) → next ≡ at + 2 * m → Begins (owed - 1) (drop next part)
       → Walking part (owed - 1) next
@@ -202,12 +194,6 @@ pub walking_ended : {part : List ℕ} {owed at : ℕ} → Walking part owed at �
 walking_ended w h =
     let f = rw (ended w.walk h) at w.ends in
     omega arith
-
--- behind the root's words its arguments are owed
-pub walking_inside : {part : List ℕ} → Begins 1 part → Walking part (get_or part 1 0) 2
-walking_inside {part} b =
-    let e : 1 - 1 + get_or part (0 + 1) 0 ≡ get_or part 1 0 = omega arith in
-    rw e at (walking_on (walking_from b) (omega arith))
 
 -- ---- What a walk's answer says
 
