@@ -7,7 +7,7 @@ use native.Mathlib.Omega.{arith}
 use mathlib.Core.Bool.{Bool, true, false, ◌&&◌, cond, and-false, and-true, and_assoc}
 use mathlib.Core.List.{List, [], ◌∷◌}
 use lib.Dec.{eqb, ltb}
-use lib.ListN.{drop, get_or}
+use lib.ListN.{length, drop, get_or}
 use borrow.Author.Tests.{lt-ltb, le-ltb, ltb-true, ltb-false, eq-eqb, ne_eqb, eqb-true, eqb-false}
 use Rattle.documents.specs.Terms.{Sort, Tm, Var, Sym, Meta, Abst, Nil, Cons, Term, Terms, len, rename}
 use Rattle.documents.specs.Tables.{nodes}
@@ -18,9 +18,14 @@ use Rattle.documents.proofs.Substitution.{rename_ext, rename_id}
 use Rattle.documents.proofs.Paper.{equal_is}
 use Rattle.tables.specs.Parts.{terms, front, Begins, word_count}
 use Rattle.std.specs.Prelude.{Some, None}
+use denote.Ref.{Bor}
+use Rattle.tables.specs.declared.walk.Node.{Node}
+use Rattle.tables.specs.declared.walk.Nodes.{Nodes}
+use Rattle.tables.specs.Nodes.{starts, goes_past, node_gives}
 use Rattle.tables.specs.Compared.{same_variable, compared}
 use Rattle.tables.proofs.Parts.{join, headed, Shape, Step, step, front_term, from, from_drop}
-use Rattle.tables.proofs.Walks.{at_variable, at_abstraction, Walk, walk_body, ended, Walking, walking_from, walking_on, walking_variable, walking_abstraction, walking_ended, walked_words, walked_stopped, is_words, is_stopped}
+use Rattle.tables.proofs.Nodes.{word_there, count_there, whole_on, owed_on}
+use Rattle.tables.proofs.Walks.{at_variable, at_abstraction, Walk, walk_body, body_falls, body_room, ended, Walking, walking_from, walking_on, walking_variable, walking_abstraction, walking_ended, walked_words, walked_stopped, is_words, is_stopped}
 
 module _ (ps : List (ℕ × ℕ)) (D : ℕ) where
   -- ---- Terms that agree, and terms that do not
@@ -267,6 +272,113 @@ module _ {pairs : List ℕ} {D j : ℕ} {old new : List ℕ} {owed at : ℕ} (c 
       differs
       (other_body (pairs_in pairs) D c.walk.walk c.other.walk h j v (w ∙ v)
       (walked_stopped _ (front (drop (at + 2) old)) (rw (from_drop (at + 2) old, from_drop (at + 2) new) at e)))
+
+-- ---- The same, where the places are those of a walk of the old part
+
+pub record Abreast (pairs : List ℕ) (D j : ℕ) (old new : List ℕ) (s : Nodes) : Type 0 where
+  pub whole : s.part.now ≡ old
+  pub both : Comparing pairs D j old new s.owed s.at
+
+pub abreast_from : {pairs : List ℕ} {D j : ℕ} {old new : List ℕ} (s : Nodes) → Begins 1 old → Begins 1 new → starts old s → Abreast pairs D j old new s
+abreast_from s b d h = record { whole = h.0; both = rw (h.1, h.2) (comparing_from b d) }
+
+pub abreast_ended : {pairs : List ℕ} {D j : ℕ} {old new : List ℕ} (s t : Nodes) → Abreast pairs D j old new s → node_gives s None t
+    → Some t.at ≡ compared pairs D j (front old) (front new)
+abreast_ended s t c g = ap (λ (z : Nodes). Some z.at) g.1.1 ∙ comparing_ended c.both (omega arith)
+
+-- a step that gave a node: it stood before place b
+module _ {pairs : List ℕ} {D j : ℕ} {old new : List ℕ} (s t : Nodes) (n : Node) (c : Abreast pairs D j old new s) (g : node_gives s (Some n) t) (b : ℕ) (e : b ≡ t.at) where
+  word : n.word ≡ get_or old s.at 0
+  word = word_there s t n c.whole c.both.walk.walk g
+
+  count : n.count ≡ get_or old (s.at + 1) 0
+  count = count_there s t n c.whole c.both.walk.walk g
+
+  place : b ≡ s.at + 2
+  place = let k = g.1.4 in omega arith
+
+  first : b - 2 ≡ s.at
+  first = let k = g.1.4 in omega arith
+
+  second : b - 1 ≡ s.at + 1
+  second = let k = g.1.4 in omega arith
+
+  inside : n.behind.now ≡ from (s.at + 2) old
+  inside = g.1.3 ∙ ap (λ (p : List ℕ). drop (s.at + 2) p) c.whole ∙ sym (from_drop (s.at + 2) old)
+
+  pub abreast_room : (2 ≤ b) × (b ≤ length new)
+  abreast_room = let k = place in let w = c.both.other.walk.within in let h = g.1.0 in (omega arith, omega arith)
+
+  pub variable_apart : n.word < 65536 → same_variable (pairs_in pairs) D j n.word (get_or new (b - 2) 0) ≡ false → None ≡ compared pairs D j (front old) (front new)
+  variable_apart v d = variable_differs c.both g.1.0 (rw word at v) (rw (word, first) at d)
+
+  pub variable_abreast : n.word < 65536 → same_variable (pairs_in pairs) D j n.word (get_or new (b - 2) 0) ≡ true → Abreast pairs D j old new t
+  variable_abreast v d = record {
+    whole = whole_on s t n c.whole c.both.walk.walk g;
+    both =
+        let l = (at_variable old s.at s.owed c.both.walk.walk.begins g.1.0 (rw word at v)).leaf in
+        let o : t.owed ≡ s.owed - 1 = let k = g.1.5 in let m = count in omega arith in
+        rw (g.1.4, o) (comparing_variable c.both g.1.0 (rw word at v) (rw (word, first) at d));
+  }
+
+  pub word_apart : 65536 ≤ n.word → ((get_or new (b - 2) 0 ≡ n.word) → ⊥) → None ≡ compared pairs D j (front old) (front new)
+  word_apart v d = word_differs c.both g.1.0 (rw word at v) (rw (word, first) at d)
+
+  pub count_apart : 65536 ≤ n.word → ((get_or new (b - 1) 0 ≡ n.count) → ⊥) → None ≡ compared pairs D j (front old) (front new)
+  count_apart v d = count_differs c.both g.1.0 (rw word at v) (rw (count, second) at d)
+
+  pub applied_abreast : 65536 ≤ n.word → ((n.word ≡ 196608) → ⊥) → get_or new (b - 2) 0 ≡ n.word → get_or new (b - 1) 0 ≡ n.count → Abreast pairs D j old new t
+  applied_abreast v d f k = record {
+    whole = whole_on s t n c.whole c.both.walk.walk g;
+    both =
+        rw (g.1.4, owed_on s t n c.whole c.both.walk.walk g)
+        (comparing_applied c.both g.1.0 (rw word at v) (rw word at d) (rw (word, first) at f) (rw (count, second) at k));
+  }
+
+  -- an abstraction in both
+  module _ (v : n.word ≡ 196608) (f : get_or new (b - 2) 0 ≡ n.word) where
+    here : get_or old s.at 0 ≡ 196608
+    here = sym word ∙ v
+
+    there : get_or new s.at 0 ≡ get_or old s.at 0
+    there = rw (word, first) at f
+
+    pub bodies_begin : Begins 1 n.behind.now × Begins 1 (from b new)
+    bodies_begin = rw (inside, place) (bodies c.both g.1.0 here there)
+
+    pub bodies_fall : {m : ℕ} → length old ≡ m → length n.behind.now < m
+    bodies_fall k = rw inside (body_falls c.both.walk.walk g.1.0 k)
+
+    pub bodies_room : {m : ℕ} → j + length old < m → j + 1 + length n.behind.now < m
+    bodies_room k = rw inside (body_room c.both.walk.walk g.1.0 j (j + 1) k (omega arith))
+
+    pub bodies_apart : None ≡ compared pairs D (j + 1) (front n.behind.now) (front (from b new)) → None ≡ compared pairs D j (front old) (front new)
+    bodies_apart d = body_differs c.both g.1.0 here there (rw (inside, place) at d)
+
+    module _ (m : ℕ) (d : Some m ≡ compared pairs D (j + 1) (front n.behind.now) (front (from b new))) where
+      behind : Comparing pairs D j old new (s.owed - 1) (s.at + (2 + m))
+      behind = comparing_body c.both g.1.0 m here there (rw (inside, place) at d)
+
+      one : n.count ≡ 1
+      one = count ∙ (at_abstraction old s.at s.owed c.both.walk.walk.begins g.1.0 here).one
+
+      pub bodies_pass : (1 ≤ t.owed) × (t.at + m ≤ length t.part.now)
+      bodies_pass =
+          let w = behind.walk.walk.within in
+          let l = ap (λ (p : List ℕ). length p) (whole_on s t n c.whole c.both.walk.walk g) in
+          let a = g.1.4 in
+          let o = g.1.5 in
+          let k = one in
+          (omega arith, omega arith)
+
+      pub bodies_abreast : (u : Nodes) → goes_past t 1 m u → Abreast pairs D j old new u
+      bodies_abreast u p =
+          let o : u.owed ≡ s.owed - 1 = let q = g.1.5 in let k = one in let x = p.2 in omega arith in
+          let i : u.at ≡ s.at + (2 + m) = let q = g.1.4 in let x = p.1 in omega arith in
+          record {
+            whole = ap (λ (p : Bor (List ℕ)). p.now) p.0 ∙ whole_on s t n c.whole c.both.walk.walk g;
+            both = rw (o, i) behind;
+          }
 
 -- ---- A free variable's new index: the first pair, and those behind it
 

@@ -6,6 +6,7 @@ ghost use Rattle.tables.specs.Parts.{front, Begins};
 ghost use Rattle.tables.specs.Compared.{agrees, compared, same_variable};
 
 use crate::node::{ABSTRACTION, FIRST_SYMBOL};
+use crate::walk::Nodes;
 
 // Code words hold d + 64 for d.
 pub const D_SHIFT: u32 = 64;
@@ -27,42 +28,31 @@ pub fn identical(old: &[u32], new: &[u32]) -> bool
 }
 
 // The same below so many abstractions: how many words the two have, if they agree. As long as they do, a node stands at the same place of both.
-// Nodes are passed by a running count of the terms still owed; only an abstraction takes a call.
+// So the nodes of the old one are gone over, and only an abstraction takes a call.
 fn compare_under(old: &[u32], new: &[u32], shift: u32, pairs: &[u32], under: usize) -> Option<usize>
     requires { Begins 1 old.now × Begins 1 new.now × (under + length old.now < 2 ^ 64) }
     ensures { result ≡ compared pairs.now shift under (front old.now) (front new.now) }
 {
-    // Kept (point 3): one place and one count serve two walks; `Nodes` over each would keep both twice, and each would have an end of its own.
-    let mut owed: usize = 1;
-    let mut at: usize = 0;
-    while 0 < owed {
-        let word = old[at];
-        let other = new[at];
-        if word < FIRST_SYMBOL {
-            if !is_same_variable(word, other, shift, pairs, under) {
+    let mut nodes = Nodes::of(old);
+    while let Some(node) = nodes.next() {
+        let behind = nodes.passed();
+        let other = new[behind - 2];
+        if node.word < FIRST_SYMBOL {
+            if !is_same_variable(node.word, other, shift, pairs, under) {
                 return None;
             }
-            owed -= 1;
-            at += 2;
-            continue;
-        }
-        if other != word {
+        } else if other != node.word {
+            return None;
+        } else if node.word == ABSTRACTION {
+            nodes.pass(
+                1,
+                compare_under(node.behind, &new[behind..], shift, pairs, under + 1)?,
+            );
+        } else if new[behind - 1] != node.count {
             return None;
         }
-        if word == ABSTRACTION {
-            let words = compare_under(&old[at + 2..], &new[at + 2..], shift, pairs, under + 1)?;
-            owed -= 1;
-            at += 2 + words;
-            continue;
-        }
-        let count = old[at + 1];
-        if new[at + 1] != count {
-            return None;
-        }
-        owed = owed - 1 + count as usize;
-        at += 2;
     }
-    Some(at)
+    Some(nodes.passed())
 }
 
 // Whether a variable's word, renamed below so many abstractions, is the other word.
