@@ -74,8 +74,8 @@ pub fn is_shallow(table: &[u32]) -> bool
     requires { Begins 1 table.now }
     ensures { result ≡ leb (depth (front table.now)) depth_limit }
 {
-    // Kept (points 3, 6): a turn ends a level or goes over a node, so no iterator over nodes says how many there are; and no heap: the levels that
-    // still owe terms stand in an array of the most that there may be.
+    // Kept (points 3, 6): a `for` over `Nodes` would keep a second count, of all terms owed, and a loop inside for the levels that end there; keeping only
+    // the levels that still owe would want the depth in each word too, as survey's walk does: neither is plainer. And no heap: an array of the most levels.
     let mut above = [0u32; MOST_DEPTH];
     let mut level: usize = 0;
     let mut owed: u32 = 1;

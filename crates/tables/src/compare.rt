@@ -44,10 +44,8 @@ fn compare_under(old: &[u32], new: &[u32], shift: u32, pairs: &[u32], under: usi
         } else if other != node.word {
             return None;
         } else if node.word == ABSTRACTION {
-            nodes.pass(
-                1,
-                compare_under(node.behind, &new[behind..], shift, pairs, under + 1)?,
-            );
+            let words = compare_under(node.behind, &new[behind..], shift, pairs, under + 1)?;
+            nodes.pass(1, words);
         } else if new[behind - 1] != node.count {
             return None;
         }

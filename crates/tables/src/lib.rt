@@ -1,7 +1,7 @@
 // The walk of a prefix table (document 01, 'Terms and node tables'), for whoever has a table: two words a node, a node and then its arguments.
 // A subterm is handed on as the part of the table that starts at its node, and never copied.
-// Kept (point 5): that a part begins with a whole term is a clause of each function here, and no type: 01 asks by name that a subterm is handed on as
-// that part of the table (docs/PROMISES.md, last table), and the words behind it go with it.
+// Kept (point 5): that a part begins with a whole term is a clause of each function here, and no type `Part`: README and the docs name these functions,
+// so a type narrower than a slice would ask more of their callers; and 01's lines that hand on `&part[top..]` would become calls.
 #![tactic(auto)]
 
 pub mod node; // the words of a node

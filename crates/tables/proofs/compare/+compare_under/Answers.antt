@@ -35,16 +35,16 @@ compare_under-requires t c =
       (b.0, b.1, bodies_room _ _ c.in-Some.node c.loop-node.invariant c.in-Some.ensures.steps _ c.passed-behind.ensures c.if-node-eq-ABSTRACTION.true c.if-other-node.false c.requires.2),
     )
 
-pub returns-in_err-compare_under : goal.returns-in_err-compare_under
-returns-in_err-compare_under t c =
+pub returns-in_err-words : goal.returns-in_err-words
+returns-in_err-words t c =
     c.from_residual.ensures
-    ∙ bodies_apart _ _ c.in-Some.node c.loop-node.invariant c.in-Some.ensures.steps _ c.passed-behind.ensures c.if-node-eq-ABSTRACTION.true c.if-other-node.false (sym c.in_err-compare_under.was ∙ c.compare_under.ensures)
+    ∙ bodies_apart _ _ c.in-Some.node c.loop-node.invariant c.in-Some.ensures.steps _ c.passed-behind.ensures c.if-node-eq-ABSTRACTION.true c.if-other-node.false (sym c.in_err-words.was ∙ c.compare_under.ensures)
 
 pub pass-requires : goal.pass-requires
-pass-requires t c = bodies_pass _ _ c.in-Some.node c.loop-node.invariant c.in-Some.ensures.steps _ c.passed-behind.ensures c.if-node-eq-ABSTRACTION.true c.if-other-node.false _ (sym c.in_ok-compare_under.was ∙ c.compare_under.ensures)
+pass-requires t c = bodies_pass _ _ c.in-Some.node c.loop-node.invariant c.in-Some.ensures.steps _ c.passed-behind.ensures c.if-node-eq-ABSTRACTION.true c.if-other-node.false _ (sym c.in_ok-words.was ∙ c.compare_under.ensures)
 
 pub loop-node-preserved-then-node-eq-ABSTRACTION : goal.loop-node-preserved-then-node-eq-ABSTRACTION
-loop-node-preserved-then-node-eq-ABSTRACTION t c = bodies_abreast _ _ c.in-Some.node c.loop-node.invariant c.in-Some.ensures.steps _ c.passed-behind.ensures c.if-node-eq-ABSTRACTION.true c.if-other-node.false _ (sym c.in_ok-compare_under.was ∙ c.compare_under.ensures) _ c.pass.ensures
+loop-node-preserved-then-node-eq-ABSTRACTION t c = bodies_abreast _ _ c.in-Some.node c.loop-node.invariant c.in-Some.ensures.steps _ c.passed-behind.ensures c.if-node-eq-ABSTRACTION.true c.if-other-node.false _ (sym c.in_ok-words.was ∙ c.compare_under.ensures) _ c.pass.ensures
 
 pub bounds-new-behind-else-node-eq-ABSTRACTION : goal.bounds-new-behind-else-node-eq-ABSTRACTION
 bounds-new-behind-else-node-eq-ABSTRACTION t c = let r = abreast_room _ _ c.in-Some.node c.loop-node.invariant c.in-Some.ensures.steps _ c.passed-behind.ensures in omega arith
