@@ -1,16 +1,17 @@
--- The rules of a set, tried one after the other: `left` is the set without the rules before `rule`, which all fail. Its lowest bit is the next rule to try.
+-- The rules of a set, tried one after the other: `left` is the set without those that were tried, which all fail. Its lowest bit is the next rule to try.
 use mathlib.Core.Path.{◌≡◌, refl, sym, ap, ◌∙◌}
 use Prim.Native.Nat.{ℕ, zero, suc, ◌+◌, ◌-◌, ◌*◌, ◌/◌, ◌%◌, ◌^◌, ◌≤◌, ◌<◌}
-use native.Mathlib.Nat.{div-div-eq-div-mul, div-le_self}
+use native.Mathlib.Nat.{div-div-eq-div-mul}
 use native.Mathlib.Omega.{arith}
 use mathlib.Core.Bool.{Bool, true, false}
 use mathlib.Core.Option.{none, some, some-injective}
 use mathlib.Core.List.{List, [], ◌∷◌}
+use lib.Bits.{bit_and}
 use lib.Count.{count_trailing_zeros}
-use lib.Dec.{ltb}
+use lib.Dec.{eqb, ltb}
 use lib.ListN.{length, get_or, get_elem?}
 use lib.Pow.{pow-add, pow_pos, pow_mono, split}
-use borrow.Author.Tests.{ne_eqb, ltb-true, ltb-false}
+use borrow.Author.Tests.{eqb-true, eq-eqb, ne_eqb, ltb-true, ltb-false}
 use Rattle.std.specs.Prelude.{Result, Ok, Err, Some, None}
 use Rattle.documents.specs.declared.Refusal.{Refusal}
 use Rattle.documents.specs.Terms.{Term}
@@ -22,6 +23,10 @@ use Rattle.documents.proofs.Substitution.{rename_ext, rename_id}
 use Rattle.tables.specs.Parts.{front}
 use Rattle.safety.proofs.Building.{makes_one_term}
 use Rattle.indices.specs.Sets.{has}
+use Rattle.indices.proofs.Covers.{none_there}
+use Rattle.dispatch.specs.Sorted.{Candidates}
+use Rattle.documents.proofs.Lists.{case, never, on, off}
+use Rattle.std.proofs.lemmas.Nat.{and_le_l}
 use Rattle.rewriting.specs.Rewrites.{by_first_rule}
 use Rattle.rewriting.proofs.FirstRule.{rule_by, rule_no}
 use Rattle.matcher.specs.declared.Matched.{Matched}
@@ -29,19 +34,15 @@ use Rattle.matcher.specs.Ready.{Ready, ComesTo, Comes}
 use Rattle.rule_table.specs.Places.{code_at}
 use Rattle.rule_table.proofs.Placed.{below_member, placed_below, placed_inside, placed_passes, placed_holds}
 use Rattle.search.specs.Searches.{Trying, Tries}
-use Rattle.search.proofs.Lowest.{below_lowest, lowest_bit}
+use Rattle.search.proofs.Lowest.{below_lowest, lowest_bit, others_stay}
 
--- all rules before one fail
-abbrev Missed : List Program → List ℕ → ℕ → Type 0
-Missed cs part rule = (i : ℕ) (c : Program) → i < rule → get_elem? cs i ≡ some c → run c (front part) ≡ fails
-
-pub record Attempting (rules starts : List ℕ) (set : ℕ) (part entries now : List ℕ) (left rule : ℕ) : Type 0 where
+-- what is left of the set is again one without whose rules none matches
+pub record Attempting (rules starts : List ℕ) (set : ℕ) (part entries now : List ℕ) (left : ℕ) : Type 0 where
   pub room : length now ≡ 16
-  pub left_is : left ≡ set / 2 ^ rule
-  pub missed : (cs : List Program) → Trying rules starts set part entries cs → Missed cs part rule
+  pub candidates : (cs : List Program) → Trying rules starts set part entries cs → Candidates cs (front part) left
 
-pub attempting_starts : {rules starts : List ℕ} {set : ℕ} {part entries : List ℕ} → length entries ≡ 16 → Attempting rules starts set part entries entries set 0
-attempting_starts {set = set} l = record { room = l; left_is = let e : set / 1 ≡ set = omega arith in sym e; missed = λ cs t i c h. absurd (omega arith) }
+pub attempting_starts : {rules starts : List ℕ} {set : ℕ} {part entries : List ℕ} → length entries ≡ 16 → Attempting rules starts set part entries entries set
+attempting_starts l = record { room = l; candidates = λ cs t. t.candidates }
 
 -- ---- Where the match part has come to the build part, a term is made
 
@@ -55,9 +56,6 @@ ready_makes {part = part} {c = c} y =
     (r.term, ap machine.made (y.goes ∙ e))
 
 -- ---- Bits
-
-shifted : (n j k : ℕ) → n / 2 ^ j / 2 ^ k ≡ n / 2 ^ (j + k)
-shifted n j k = div-div-eq-div-mul n (2 ^ j) (2 ^ k) ∙ ap (λ (m : ℕ). n / m) (sym (pow-add 2 j k))
 
 -- a set below 2 ^ n has no rule from n on
 none_from : (set n i : ℕ) → set < 2 ^ n → n ≤ i → set / 2 ^ i ≡ 0
@@ -76,107 +74,81 @@ none_from set n i h l =
 not_in : (set i : ℕ) → set / 2 ^ i % 2 ≡ 0 → has set i ≡ false
 not_in set i e = ne_eqb (set / 2 ^ i % 2) 1 (λ f. omega arith)
 
+in_it : (set i : ℕ) → set / 2 ^ i % 2 ≡ 1 → has set i ≡ true
+in_it set i e = eq-eqb (set / 2 ^ i % 2) 1 e
+
+positive : (n : ℕ) → (n ≡ 0 → ⊥) → 0 < n
+positive zero h = absurd (h refl)
+positive (suc n) h = omega arith
+
+-- without its lowest rule a set has the others still
+others_out : (set i : ℕ) → 0 < set → set < 2 ^ 32 → (i ≡ count_trailing_zeros 32 set → ⊥) → has (bit_and set (set - 1)) i ≡ false → has set i ≡ false
+others_out set i p l n e = case (λ b. has set i ≡ false) (has set i)
+    (λ y. let q = in_it (bit_and set (set - 1)) i (others_stay 32 set i p l (eqb-true (set / 2 ^ i % 2) 1 (on _ y)) n) in let z : true ≡ false = sym q ∙ e in never (cc))
+    (λ y. off _ y)
+
 -- ---- The next rule
 
-module _ {rules starts : List ℕ} {set : ℕ} {part entries now : List ℕ} {left rule : ℕ} (a : Attempting rules starts set part entries now left rule) where
-  module _ (cs : List Program) (t : Trying rules starts set part entries cs) where
-    few_rules : length cs ≤ 32
-    few_rules = t.places.few
+module _ {rules starts : List ℕ} {set : ℕ} {part entries now : List ℕ} {left : ℕ} (a : Attempting rules starts set part entries now left) where
+  -- none is left: all fail
+  attempt_none : (cs : List Program) → Trying rules starts set part entries cs → left ≡ 0 → by_first_rule cs (front part) ≡ none
+  attempt_none cs t z = rule_no cs (front part) (λ i c e. ap machine.made ((a.candidates cs t).others i c e (rw z (none_there i))))
 
-    -- none is left: all fail
-    all_missed : left ≡ 0 → (i : ℕ) (c : Program) → get_elem? cs i ≡ some c → run c (front part) ≡ fails
-    all_missed z i c e = go (ltb i rule) refl
-      where
-        go : (b : Bool) → ltb i rule ≡ b → run c (front part) ≡ fails
-        go true q = a.missed cs t i c (ltb-true i rule q) e
-        go false q =
-            let l = ltb-false i rule q in
-            let y : set / 2 ^ rule ≡ 0 = sym a.left_is ∙ z in
-            let x : i ≡ rule + (i - rule) = omega arith in
-            let w : set / 2 ^ i ≡ 0 = ap (λ (k : ℕ). set / 2 ^ k) x ∙ (sym (shifted set rule (i - rule)) ∙ (ap (λ (m : ℕ). m / 2 ^ (i - rule)) y ∙ none_from 0 0 (i - rule) (omega arith) (omega arith))) in
-            t.candidates.others i c e (not_in set i (let v : set / 2 ^ i % 2 ≡ 0 = ap (λ (m : ℕ). m % 2) w in v))
-
-    attempt_none : left ≡ 0 → by_first_rule cs (front part) ≡ none
-    attempt_none z = rule_no cs (front part) (λ i c e. ap machine.made (all_missed z i c e))
-
--- the number of the next rule is the old one and the gap before it
-module _ {rules starts : List ℕ} {set : ℕ} {part entries now : List ℕ} {left rule : ℕ} (a : Attempting rules starts set part entries now left rule)
+-- the lowest one
+module _ {rules starts : List ℕ} {set : ℕ} {part entries now : List ℕ} {left : ℕ} (a : Attempting rules starts set part entries now left)
     (cs : List Program) (t : Trying rules starts set part entries cs) (some_left : left ≡ 0 → ⊥) where
-  next_bit : left / 2 ^ count_trailing_zeros 32 left % 2 ≡ 1
-  next_bit = lowest_bit 32 left (positive left some_left) low
+  low : left < 2 ^ 32
+  low = omega (arith, (a.candidates cs t).low, pow_mono {i = length cs} {j = 32} t.places.few)
+
+  next_below : count_trailing_zeros 32 left < length cs
+  next_below = go (ltb (count_trailing_zeros 32 left) (length cs)) refl
     where
-      positive : (n : ℕ) → (n ≡ 0 → ⊥) → 0 < n
-      positive zero h = absurd (h refl)
-      positive (suc n) h = omega arith
-
-      low : left < 2 ^ 32
-      low = omega (arith, a.left_is, div-le_self set (2 ^ rule), t.candidates.low, pow_mono {i = length cs} {j = 32} t.places.few)
-
-  there : set / 2 ^ (rule + count_trailing_zeros 32 left) % 2 ≡ 1
-  there = ap (λ (m : ℕ). m % 2) (sym (shifted set rule (count_trailing_zeros 32 left)) ∙ ap (λ (m : ℕ). m / 2 ^ count_trailing_zeros 32 left) (sym a.left_is)) ∙ next_bit
-
-  next_below : rule + count_trailing_zeros 32 left < length cs
-  next_below = go (ltb (rule + count_trailing_zeros 32 left) (length cs)) refl
-    where
-      go : (b : Bool) → ltb (rule + count_trailing_zeros 32 left) (length cs) ≡ b → rule + count_trailing_zeros 32 left < length cs
-      go true q = ltb-true (rule + count_trailing_zeros 32 left) (length cs) q
+      go : (b : Bool) → ltb (count_trailing_zeros 32 left) (length cs) ≡ b → count_trailing_zeros 32 left < length cs
+      go true q = ltb-true (count_trailing_zeros 32 left) (length cs) q
       go false q =
-          let z = none_from set (length cs) (rule + count_trailing_zeros 32 left) t.candidates.low (ltb-false (rule + count_trailing_zeros 32 left) (length cs) q) in
-          let y : 0 % 2 ≡ 1 = ap (λ (m : ℕ). m % 2) (sym z) ∙ there in
+          let z = none_from left (length cs) (count_trailing_zeros 32 left) (a.candidates cs t).low (ltb-false (count_trailing_zeros 32 left) (length cs) q) in
+          let y : 0 % 2 ≡ 1 = ap (λ (m : ℕ). m % 2) (sym z) ∙ lowest_bit 32 left (positive left some_left) low in
           absurd (omega arith)
 
-  -- the rules between are not in the set
-  missed_to : Missed cs part (rule + count_trailing_zeros 32 left)
-  missed_to i c h e = go (ltb i rule) refl
-    where
-      go : (b : Bool) → ltb i rule ≡ b → run c (front part) ≡ fails
-      go true q = a.missed cs t i c (ltb-true i rule q) e
-      go false q =
-          let l = ltb-false i rule q in
-          let x : rule + (i - rule) ≡ i = omega arith in
-          let w : left / 2 ^ (i - rule) % 2 ≡ 0 = below_lowest 32 left (i - rule) (omega arith) in
-          let v : set / 2 ^ i ≡ left / 2 ^ (i - rule) = ap (λ (k : ℕ). set / 2 ^ k) (sym x) ∙ (sym (shifted set rule (i - rule)) ∙ ap (λ (m : ℕ). m / 2 ^ (i - rule)) (sym a.left_is)) in
-          t.candidates.others i c e (not_in set i (ap (λ (m : ℕ). m % 2) v ∙ w))
+  -- the rules before it are not in the set
+  missed_before : (i : ℕ) (c : Program) → i < count_trailing_zeros 32 left → get_elem? cs i ≡ some c → run c (front part) ≡ fails
+  missed_before i c h e = (a.candidates cs t).others i c e (not_in left i (below_lowest 32 left i h))
 
-  next_rule : (c : Program) × (get_elem? cs (rule + count_trailing_zeros 32 left) ≡ some c)
-  next_rule = below_member cs (rule + count_trailing_zeros 32 left) next_below
+  next_rule : (c : Program) × (get_elem? cs (count_trailing_zeros 32 left) ≡ some c)
+  next_rule = below_member cs (count_trailing_zeros 32 left) next_below
 
 comes_same : (code part then : List ℕ) (c : Program) {r x : Result Matched Refusal} → r ≡ x → ComesTo code part then c r → ComesTo code part then c x
 comes_same code part then c e k = rw e at k
 
 -- what is asked on the way to trying it
-pub record Next (rules starts : List ℕ) (rule gap : ℕ) : Type 0 where
-  pub narrow : rule + gap < 32
-  pub inside : rule + gap < length starts
-  pub whole : get_or starts (rule + gap) 0 + 1 + get_or rules (get_or starts (rule + gap) 0) 0 ≤ length rules
-  pub passed : passes (code_at rules (get_or starts (rule + gap) 0)) ≡ true
+pub record Next (rules starts : List ℕ) (rule : ℕ) : Type 0 where
+  pub inside : rule < length starts
+  pub whole : get_or starts rule 0 + 1 + get_or rules (get_or starts rule 0) 0 ≤ length rules
+  pub passed : passes (code_at rules (get_or starts rule 0)) ≡ true
 
-module _ {rules starts : List ℕ} {set : ℕ} {part entries now : List ℕ} {left rule : ℕ} (a : Attempting rules starts set part entries now left rule) (some_left : left ≡ 0 → ⊥) where
-  pub next_is : (p : (cs : List Program) × Trying rules starts set part entries cs) → {gap : ℕ} → gap ≡ count_trailing_zeros 32 left → Next rules starts rule gap
-  next_is (cs, t) {gap} g =
+module _ {rules starts : List ℕ} {set : ℕ} {part entries now : List ℕ} {left : ℕ} (a : Attempting rules starts set part entries now left) (some_left : left ≡ 0 → ⊥) where
+  pub next_is : (p : (cs : List Program) × Trying rules starts set part entries cs) → {rule : ℕ} → rule ≡ count_trailing_zeros 32 left → Next rules starts rule
+  next_is (cs, t) {rule} g =
       let n = next_rule a cs t some_left in
-      let h = next_below a cs t some_left in
-      let k = t.places.few in
       rw g (record {
-        narrow = omega arith;
-        inside = placed_below rules starts cs t.places (rule + count_trailing_zeros 32 left) n.0 n.1;
-        whole = placed_inside rules starts cs t.places (rule + count_trailing_zeros 32 left) n.0 n.1;
-        passed = placed_passes rules starts cs t.places (rule + count_trailing_zeros 32 left) n.0 n.1;
+        inside = placed_below rules starts cs t.places (count_trailing_zeros 32 left) n.0 n.1;
+        whole = placed_inside rules starts cs t.places (count_trailing_zeros 32 left) n.0 n.1;
+        passed = placed_passes rules starts cs t.places (count_trailing_zeros 32 left) n.0 n.1;
       })
 
-  module _ {gap : ℕ} (g : gap ≡ count_trailing_zeros 32 left) {code then : List ℕ} {r : Result Matched Refusal} (is : code ≡ code_at rules (get_or starts (rule + gap) 0)) (m : Comes code part then r) (l : length then ≡ 16) where
+  module _ {rule : ℕ} (g : rule ≡ count_trailing_zeros 32 left) {code then : List ℕ} {r : Result Matched Refusal} (is : code ≡ code_at rules (get_or starts rule 0)) (m : Comes code part then r) (l : length then ≡ 16) where
     comes_to : (cs : List Program) (t : Trying rules starts set part entries cs)
-        → (c : Program) × (get_elem? cs (rule + gap) ≡ some c) × ComesTo (code_at rules (get_or starts (rule + gap) 0)) part then c r
+        → (c : Program) × (get_elem? cs rule ≡ some c) × ComesTo (code_at rules (get_or starts rule 0)) part then c r
     comes_to cs t =
         let n = rw (sym g) at (next_rule a cs t some_left) in
-        (n.0, n.1, (rw is at m).means n.0 (placed_holds rules starts cs t.places (rule + gap) n.0 n.1))
+        (n.0, n.1, (rw is at m).means n.0 (placed_holds rules starts cs t.places rule n.0 n.1))
 
     -- it matches
-    pub attempt_matches : {matched : Matched} → r ≡ Ok matched → Tries rules starts set part entries then (Some (record { rule = rule + gap; matched = matched }))
+    pub attempt_matches : {matched : Matched} → r ≡ Ok matched → Tries rules starts set part entries then (Some (record { rule = rule; matched = matched }))
     attempt_matches {matched} e = record {
       long = l;
       says = λ cs t. let n = comes_to cs t in
-          let k = comes_same (code_at rules (get_or starts (rule + gap) 0)) part then n.0 {x = Ok matched} e n.2 in
+          let k = comes_same (code_at rules (get_or starts rule 0)) part then n.0 {x = Ok matched} e n.2 in
           record {
             program = n.0;
             listed = n.1;
@@ -184,30 +156,34 @@ module _ {rules starts : List ℕ} {set : ℕ} {part entries now : List ℕ} {le
             words_are = k.1;
             new = (ready_makes k.0).0;
             makes = (ready_makes k.0).1;
-            first = rule_by cs (front part) (ready_makes k.0).0 (rule + gap) n.0 n.1 (ready_makes k.0).1 (λ i d h q. ap machine.made (missed_to a cs t some_left i d (rw g at h) q));
+            first = rule_by cs (front part) (ready_makes k.0).0 rule n.0 n.1 (ready_makes k.0).1 (λ i d h q. ap machine.made (missed_before a cs t some_left i d (rw g at h) q));
           };
     }
 
-    -- it fails: the rules behind it are left
-    pub attempt_misses : {w : Refusal} → r ≡ Err w → Attempting rules starts set part entries then (left / 2 ^ gap / 2) (rule + gap + 1)
+    -- it fails: the others are left
+    pub attempt_misses : {w : Refusal} → r ≡ Err w → Attempting rules starts set part entries then (bit_and left (left - 1))
     attempt_misses {w} e = record {
       room = l;
-      left_is = shifted left gap 1 ∙ (ap (λ (m : ℕ). m / 2 ^ (gap + 1)) a.left_is ∙ (shifted set rule (gap + 1) ∙ ap (λ (k : ℕ). set / 2 ^ k) (omega arith)));
-      missed = λ cs t i c h q. go cs t i c h q (ltb i (rule + gap)) refl;
+      candidates = λ cs t. record {
+        low = omega (arith, and_le_l left (left - 1), (a.candidates cs t).low);
+        others = λ i c q n. go cs t i c q n (eqb i rule) refl;
+      };
     }
       where
-        go : (cs : List Program) (t : Trying rules starts set part entries cs) (i : ℕ) (c : Program) → i < rule + gap + 1 → get_elem? cs i ≡ some c
-            → (b : Bool) → ltb i (rule + gap) ≡ b → run c (front part) ≡ fails
-        go cs t i c h q true b = missed_to a cs t some_left i c (rw g at (ltb-true i (rule + gap) b)) q
-        go cs t i c h q false b =
-            let z : i ≡ rule + gap = let f = ltb-false i (rule + gap) b in omega arith in
+        go : (cs : List Program) (t : Trying rules starts set part entries cs) (i : ℕ) (c : Program) → get_elem? cs i ≡ some c → has (bit_and left (left - 1)) i ≡ false
+            → (b : Bool) → eqb i rule ≡ b → run c (front part) ≡ fails
+        go cs t i c q n true b =
+            let z = eqb-true i rule b in
             let n = comes_to cs t in
-            let k = comes_same (code_at rules (get_or starts (rule + gap) 0)) part then n.0 {x = Err w} e n.2 in
+            let k = comes_same (code_at rules (get_or starts rule 0)) part then n.0 {x = Err w} e n.2 in
             let s : c ≡ n.0 = some-injective c n.0 (sym q ∙ (ap (get_elem? cs) z ∙ n.1)) in
             rw s k.1
+        go cs t i c q n false b =
+            let other : i ≡ count_trailing_zeros 32 left → ⊥ = λ z. let y : true ≡ false = sym (eq-eqb i rule (z ∙ sym g)) ∙ b in never (cc) in
+            (a.candidates cs t).others i c q (others_out left i (positive left some_left) (low a cs t some_left) other n)
 
 -- no rule is left
-pub attempt_ends : {rules starts : List ℕ} {set : ℕ} {part entries now : List ℕ} {left rule : ℕ} → Attempting rules starts set part entries now left rule → left ≡ 0
+pub attempt_ends : {rules starts : List ℕ} {set : ℕ} {part entries now : List ℕ} {left : ℕ} → Attempting rules starts set part entries now left → left ≡ 0
     → Tries rules starts set part entries now None
 attempt_ends a z = record { long = a.room; says = λ cs t. attempt_none a cs t z }
 

@@ -1,8 +1,9 @@
--- The lowest bit of a number: below it there is none.
-use mathlib.Core.Path.{◌≡◌, refl, sym, ap, ◌∙◌}
-use Prim.Native.Nat.{ℕ, zero, suc, ◌+◌, ◌*◌, ◌/◌, ◌%◌, ◌^◌, ◌<◌}
+-- The lowest bit of a number: below it there is none, and without it the others are left.
+use mathlib.Core.Path.{◌≡◌, refl, sym, ap, ap₂, ◌∙◌}
+use Prim.Native.Nat.{ℕ, zero, suc, ◌+◌, ◌-◌, ◌*◌, ◌/◌, ◌%◌, ◌^◌, ◌<◌, min}
 use native.Mathlib.Omega.{arith}
 use native.Mathlib.Nat.{div-div-eq-div-mul}
+use lib.Bits.{bit_and, and_step, and_shr}
 use lib.Count.{count_trailing_zeros, under}
 use lib.Pow.{pow-add}
 
@@ -30,3 +31,34 @@ lowest_bit (suc k) n p h = go (n % 2) refl (lowest_bit k (n / 2))
     go : (d : ℕ) → n % 2 ≡ d → (0 < n / 2 → n / 2 < 2 ^ k → n / 2 / 2 ^ count_trailing_zeros k (n / 2) % 2 ≡ 1) → n / 2 ^ under d (count_trailing_zeros k (n / 2)) % 2 ≡ 1
     go zero e f = rw (halves n (count_trailing_zeros k (n / 2))) (f (omega arith) half)
     go (suc d) e f = let z : n / 1 ≡ n = omega arith in rw z (omega arith)
+
+-- ---- without the lowest one
+
+bits_and : (a b k : ℕ) → bit_and a b / 2 ^ k % 2 ≡ min (a / 2 ^ k % 2) (b / 2 ^ k % 2)
+bits_and a b k = ap (λ (n : ℕ). n % 2) (and_shr a b k) ∙ lowest (a / 2 ^ k) (b / 2 ^ k)
+  where
+    lowest : (x y : ℕ) → bit_and x y % 2 ≡ min (x % 2) (y % 2)
+    lowest x y = omega (arith, and_step x y)
+
+half_bit : (n i : ℕ) → n / 2 ^ suc i % 2 ≡ n / 2 / 2 ^ i % 2
+half_bit n i = ap (λ (m : ℕ). m % 2) (halves n i)
+
+pub others_stay : (k n j : ℕ) → 0 < n → n < 2 ^ k → n / 2 ^ j % 2 ≡ 1 → (j ≡ count_trailing_zeros k n → ⊥) → bit_and n (n - 1) / 2 ^ j % 2 ≡ 1
+unfolding count_trailing_zeros
+others_stay zero n j p h s ne = absurd (omega arith)
+others_stay (suc k) n j p h s ne = go (n % 2) (count_trailing_zeros k (n / 2)) j refl s ne (λ e i. others_stay k (n / 2) i (omega arith) half)
+  where
+    half : n / 2 < 2 ^ k
+    half = let z : 1 + k ≡ suc k = omega arith in let e : 2 ^ (1 + k) ≡ 2 * 2 ^ k = pow-add 2 1 k in let h' : n < 2 ^ (1 + k) = rw z h in omega arith
+
+    go : (d t j : ℕ) → n % 2 ≡ d → n / 2 ^ j % 2 ≡ 1 → (j ≡ under d t → ⊥)
+        → (n % 2 ≡ 0 → (i : ℕ) → n / 2 / 2 ^ i % 2 ≡ 1 → (i ≡ t → ⊥) → bit_and (n / 2) (n / 2 - 1) / 2 ^ i % 2 ≡ 1) → bit_and n (n - 1) / 2 ^ j % 2 ≡ 1
+    go zero t zero e s ne f = let z : n / 1 ≡ n = omega arith in let s' : n % 2 ≡ 1 = rw z at s in absurd (omega arith)
+    go zero t (suc i) e s ne f =
+        let z : (n - 1) / 2 ≡ n / 2 - 1 = omega arith in
+        half_bit (bit_and n (n - 1)) i ∙ ap (λ (m : ℕ). m / 2 ^ i % 2) (and_shr n (n - 1) 1 ∙ ap (bit_and (n / 2)) z) ∙ f e i (sym (half_bit n i) ∙ s) (λ q. ne (ap suc q))
+    go (suc d) t zero e s ne f = absurd (ne refl)
+    go (suc d) t (suc i) e s ne f =
+        let z : (n - 1) / 2 ≡ n / 2 = omega arith in
+        let s' : (n - 1) / 2 ^ suc i % 2 ≡ 1 = half_bit (n - 1) i ∙ ap (λ (m : ℕ). m / 2 ^ i % 2) z ∙ sym (half_bit n i) ∙ s in
+        bits_and n (n - 1) (suc i) ∙ ap₂ min s s'

@@ -125,22 +125,18 @@ fn redex(node: usize, level: usize, tried: Tried) -> Redex
     }
 }
 
-// The first rule of a set that matches the term which a part begins with. `left` is the set without the rules before `rule`, whose bit is the lowest.
+// The first rule of a set that matches the term which a part begins with. `left` is the set without those that were tried.
 fn attempt(rules: Rules, set: u32, part: &[u32], entries: &mut [u32]) -> Option<Tried>
     requires { (cs : List Program) × TryingIn rules set part.now entries.old cs }
     ensures { TriesIn rules.entry set part.now entries.old entries.new result }
 {
     let mut left = set;
-    let mut rule: usize = 0;
-    // Kept (point 3): the rules are the bits of a set, and the next one is as far on as the lowest bit says.
     while left != 0 {
-        let gap = u32::trailing_zeros(left);
-        rule += gap as usize;
+        let rule = u32::trailing_zeros(left) as usize;
         if let Ok(matched) = match_part(rules.code(rule), part, entries) {
             return Some(Tried { rule, matched });
         }
-        rule += 1;
-        left = left >> gap >> 1;
+        left &= left - 1;
     }
     None
 }

@@ -1,13 +1,11 @@
-use Rattle.std.proofs.Common.{refl, ap, ◌∙◌, arith}
+use Rattle.std.proofs.Common.{◌-◌, refl, ap, ◌∙◌, arith}
+use Rattle.std.proofs.lemmas.Nat.{and_le_r}
 use Rattle.documents.specs.Passing.{passes}
 use Rattle.search.proofs.Attempting.{attempting_starts, next_is, attempt_matches, attempt_misses, attempt_ends}
 use Rattle.search.proofs.attempt.Goals as goal
 
 pub loop-left-init : goal.loop-left-init
 loop-left-init c = attempting_starts c.requires.1.room
-
-pub overflow_add-rule : goal.overflow_add-rule
-overflow_add-rule c = let n = next_is c.loop-left.invariant c.loop-left-test.true c.requires refl in omega (arith, n.narrow)
 
 pub code-requires : goal.code-requires
 code-requires c = let n = next_is c.loop-left.invariant c.loop-left-test.true c.requires refl in (n.inside, n.whole)
@@ -20,11 +18,8 @@ match_part-requires c =
 pub returns-in-Ok : goal.returns-in-Ok
 returns-in-Ok c = attempt_matches c.loop-left.invariant c.loop-left-test.true refl c.code.ensures c.match_part.ensures (c.match_part.auto.entries ∙ c.loop-left.invariant.room) c.in-Ok.is
 
-pub overflow_add-rule-in-loop-left : goal.overflow_add-rule-in-loop-left
-overflow_add-rule-in-loop-left c = let n = next_is c.loop-left.invariant c.loop-left-test.true c.requires refl in omega (arith, n.narrow)
-
 pub loop-left-smaller : goal.loop-left-smaller
-loop-left-smaller c = let n = next_is c.loop-left.invariant c.loop-left-test.true c.requires refl in omega (arith, n.inside)
+loop-left-smaller c = omega (arith, and_le_r c.loop-left.left (c.loop-left.left - 1))
 
 pub loop-left-preserved : goal.loop-left-preserved
 loop-left-preserved c = attempt_misses c.loop-left.invariant c.loop-left-test.true refl c.code.ensures c.match_part.ensures (c.match_part.auto.entries ∙ c.loop-left.invariant.room) c.in_default.is
