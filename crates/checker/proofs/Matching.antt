@@ -270,6 +270,19 @@ passes_ended t a m e = rw (e, program_done t (length t))
 
 -- ---- the loop: what the arrays hold at place a
 
+-- refused with one refusal
+turn_refusal : (t : List ℕ) (a d below : ℕ) (es : List Slot) (v : Refusal) → turn_at t a d below es ≡ Err v → v ≡ DoesNotPass
+unfolding turn_at
+turn_refusal t a d below es v = go (read_at t a (length t))
+  where
+    tested : (q : Bool) (p n k : ℕ) → turn_if q p n k ≡ Err v → v ≡ DoesNotPass
+    tested true p n k e = never (cc)
+    tested false p n k e = cc
+
+    go : (o : Option Read) → turn_by o a d below es ≡ Err v → v ≡ DoesNotPass
+    go none e = cc
+    go (some (whole i m)) e = tested (allowed i d below es) (a + 1 + m) (terms_put i) (depth_put i d) e
+
 -- es and g are the entries and the list of 01's state; the arrays hold them, each guard as its set.
 pub record Matched (t current : List ℕ) (terms : ℕ) (n : Entries) (guard a : ℕ) : Type 0 where
   pub es : List Slot
@@ -335,8 +348,8 @@ module _ {t current : List ℕ} {terms : ℕ} {n : Entries} {guard a : ℕ} (m :
         real : {r : Result Turned Refusal} → r ≡ turn_at t a d (terms - 1) (entries_of n) → r ≡ turn_at t a d (terms - 1) m.es
         real q = q ∙ ap (turn_at t a d (terms - 1)) m.held ∙ turn_told t a d (terms - 1) m.es
 
-        pub matched_refused : {r : Result Turned Refusal} (v : Refusal) → r ≡ turn_at t a d (terms - 1) (entries_of n) → r ≡ Err v → Err DoesNotPass ≡ verdict (passes_at t 0 (matching (0 ∷ []) [] []))
-        matched_refused v q e = rw (turned_to, sym (real q), e)
+        pub matched_refused : {r : Result Turned Refusal} (v : Refusal) → r ≡ turn_at t a d (terms - 1) (entries_of n) → r ≡ Err v → Err v ≡ verdict (passes_at t 0 (matching (0 ∷ []) [] []))
+        matched_refused v q e = rw (turn_refusal t a d (terms - 1) (entries_of n) v (sym q ∙ e)) (rw (turned_to, sym (real q), e))
 
         module _ {r : Result Turned Refusal} {p c b : ℕ} (q : r ≡ turn_at t a d (terms - 1) (entries_of n)) (e : r ≡ turned p c b) where
           pub ranged : Ranged t a (terms - 1) m.es p c b
@@ -348,7 +361,7 @@ module _ {t current : List ℕ} {terms : ℕ} {n : Entries} {guard a : ℕ} (m :
           fits : terms - 1 + c ≤ length current
           fits = let u = ranged.current in let v = m.whole_current in omega arith
 
-          pub room : get_or t a 0 ≡ 4 → n.count < 16
+          pub room : get_or t a 0 ≡ 4 → n.stored.count < 16
           room o =
               let u = ranged.entries o in
               let v = entries_length n in

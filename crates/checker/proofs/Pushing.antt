@@ -120,7 +120,7 @@ pub push_absent : (t : List ℕ) (a e : ℕ) (es : List Slot) (l nest : ℕ) →
 push_absent t a e es l nest f = push_is t a e es l nest ∙ behind_never (bodies_at t (a + 3) e (get_or t (a + 2) 0)) e _ (λ o m r. rw f)
 
 module _ (t : List ℕ) (a e : ℕ) (n : Entries) (l nest : ℕ) where
-  module _ (x : Entry) (f : found_in n (get_or t a 0) ≡ Some x) where
+  module _ (x : Entry) (f : found_in n.stored (get_or t a 0) ≡ Some x) where
     abbrev b : ℕ
     b = x.depth
 

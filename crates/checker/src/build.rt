@@ -15,7 +15,7 @@ use instructions::fetch;
 use instructions::limit::{MOST_NAME, MOST_PAIRS};
 use tables::compare::D_SHIFT;
 use tables::node::MOST_ARGUMENTS;
-use turns::entries::{Entries, Entry};
+use turns::entries::{Entries, Entry, Stored};
 
 // How instructions ended that made one term: at an ADBMAL, with the place behind it, or with their words.
 // Kept (point 1): both are ends that a caller may want, and neither is a missing one, so an Option's names would say less.
@@ -27,7 +27,8 @@ pub enum Ended {
 
 // Instructions from a place on: a block to its ADBMAL; a body, or the whole, to its end. An entry is looked up here, since a function that takes all
 // sixteen keeps a copy of them.
-// Kept (point 5): code, end and entries go side by side: each body has an end of its own, so a struct of the three would be made anew at each.
+// Kept (point 5): not `&code[..end]` for code and end: an inner body's places are places of the whole code, and the clauses of `Ends`, `bodies_obey` and
+// `entry_obeys` speak of the whole code and an end in it. Each body has an end of its own, so a struct with the entries would be made anew at each.
 #[cycle(bodies_build_push)]
 pub fn build(
     code: &[u32],
@@ -41,7 +42,8 @@ pub fn build(
 {
     let mut at = from;
     let mut terms: usize = 0;
-    // Kept (point 3): an instruction says by its words where the next one stands, so the place goes on by these and not by one.
+    // Kept (point 3): the next place comes of a call, `build` of a block or `push`, that may refuse and takes the entries and how deep it is, so no
+    // iterator over the code can know it.
     while at < end {
         let next = fetch(code, at, end)?;
         let op = code[at];
@@ -58,12 +60,12 @@ pub fn build(
             at = after;
             terms += 1;
         } else if PUSHVAR < op {
-            let Some(i) = Entries::place(entries.count, code[at + 1]) else {
+            let Some(i) = Stored::place(entries.stored.count, code[at + 1]) else {
                 return Err(Refusal::DoesNotPass);
             };
             let entry = Entry {
-                depth: u32::from(entries.depths[i]),
-                guard: entries.guards[i],
+                depth: u32::from(entries.stored.depths[i]),
+                guard: entries.stored.guards[i],
             };
             at = push(code, at + 1, end, entries, nesting, entry)?;
             terms += 1;
@@ -121,7 +123,7 @@ fn push(
     nesting: Nesting,
     entry: Entry,
 ) -> Result<usize, Refusal>
-    requires { (1 ≤ from) × (from ≤ end) × Operands code.now from end × (end ≤ length code.now) × (length code.now ≤ 4096) × (found_in entries (get_or code.now from 0) ≡ Some entry) }
+    requires { (1 ≤ from) × (from ≤ end) × Operands code.now from end × (end ≤ length code.now) × (length code.now ≤ 4096) × (found_in entries.stored (get_or code.now from 0) ≡ Some entry) }
     ensures { result ≡ entry_obeys code.now from end (entries_of entries) nesting.lambdas nesting.nested entry.depth }
 {
     if code[from - 1] == PUSHIMM {

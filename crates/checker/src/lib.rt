@@ -44,7 +44,7 @@ fn obeys(code: &[u32]) -> Result<(), Refusal>
     let mut entries = Entries::new();
     let mut guard: u64 = NO_INDEX;
     let mut at: usize = 0;
-    // Kept (point 3): the place goes on to the next instruction, as `turn` says, and not by one.
+    // Kept (point 3): the next place comes of `turn`, which may refuse and asks for the terms and entries so far, so no iterator over the code knows it.
     while at < code.len() {
         let op = code[at];
         if EQI < op {
@@ -55,10 +55,7 @@ fn obeys(code: &[u32]) -> Result<(), Refusal>
         }
         let top = terms - 1;
         let d = current[top];
-        // Kept (point 1): 01 wants a `let .. else` here (docs/PROMISES.md, last table); `?` is in all below.
-        let Ok(turned) = turn(code, at, entries, d, top) else {
-            return Err(Refusal::DoesNotPass);
-        };
+        let turned = turn(code, at, entries, d, top)?;
         terms = top + turned.terms;
         current[top..terms].fill(turned.depth);
         if op == SET {

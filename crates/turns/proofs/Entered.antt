@@ -15,6 +15,7 @@ use Rattle.documents.specs.Passing.{slot}
 use Rattle.documents.proofs.Lists.{never, case, on, off}
 use Rattle.indices.specs.Sets.{members}
 use Rattle.turns.specs.declared.entries.Entries.{Entries}
+use Rattle.turns.specs.declared.entries.Stored.{Stored}
 use Rattle.turns.specs.declared.entries.Entry.{Entry}
 use Rattle.turns.specs.Held.{slots, entries_of, found_in, same_depth}
 
@@ -25,8 +26,8 @@ unfolding slots
 slots_length zero ds gs = refl
 slots_length (suc n) ds gs = ap suc (slots_length n ds gs)
 
-pub entries_length : (e : Entries) → length (entries_of e) ≡ e.count
-entries_length e = slots_length e.count e.depths e.guards
+pub entries_length : (e : Entries) → length (entries_of e) ≡ e.stored.count
+entries_length e = slots_length e.stored.count e.stored.depths e.stored.guards
 
 slots_set : (n i : ℕ) (ds gs : List ℕ) (d g : ℕ) → n ≤ i → slots n (set ds i d) (set gs i g) ≡ slots n ds gs
 unfolding slots
@@ -54,37 +55,45 @@ slot_at zero ds gs x h = absurd (omega arith)
 slot_at (suc n) ds gs zero h = let e : suc n - 1 - 0 ≡ n = omega arith in rw e
 slot_at (suc n) ds gs (suc x) h = let e : suc n - 1 - suc x ≡ n - 1 - x = omega arith in slot_at n ds gs x (omega arith) ∙ rw e
 
-module _ (e : Entries) (x : ℕ) where
+module _ (s : Stored) (x : ℕ) where
   abbrev at_place : Entry
-  at_place = record { depth = get_or e.depths (e.count - 1 - x) 0; guard = get_or e.guards (e.count - 1 - x) 0 }
+  at_place = record { depth = get_or s.depths (s.count - 1 - x) 0; guard = get_or s.guards (s.count - 1 - x) 0 }
 
-  pub found_missing : e.count ≤ x → None ≡ found_in e x
+  pub found_missing : s.count ≤ x → None ≡ found_in s x
   unfolding found_in
-  found_missing h = rw (le-ltb x e.count h)
+  found_missing h = rw (le-ltb x s.count h)
 
-  pub found_entry : {i b : ℕ} → (x < e.count) × (i ≡ e.count - 1 - x) → b ≡ get_or e.depths i 0 → found_in e x ≡ Some (record { depth = b; guard = get_or e.guards i 0 })
+  pub found_entry : {i b : ℕ} → (x < s.count) × (i ≡ s.count - 1 - x) → b ≡ get_or s.depths i 0 → found_in s x ≡ Some (record { depth = b; guard = get_or s.guards i 0 })
   unfolding found_in
-  found_entry h f = rw (lt-ltb x e.count h.0, f, h.1)
+  found_entry h f = rw (lt-ltb x s.count h.0, f, h.1)
 
-  -- the slot that was found
-  pub found_none : found_in e x ≡ None → get_elem? (entries_of e) x ≡ none
+  there_none : found_in s x ≡ None → s.count ≤ x
   unfolding found_in
-  found_none h =
-      case (λ b. cond b (Some at_place) None ≡ None → get_elem? (entries_of e) x ≡ none)
-      (ltb x e.count) (λ y p. never (cc)) (λ y p. slot_none e.count e.depths e.guards x (ltb-false x e.count (off _ y))) h
+  there_none h =
+      case (λ b. cond b (Some at_place) None ≡ None → s.count ≤ x)
+      (ltb x s.count) (λ y p. never (cc)) (λ y p. ltb-false x s.count (off _ y)) h
 
-  module _ (f : Entry) (h : found_in e x ≡ Some f) where
-    there : (x < e.count) × (f ≡ at_place)
-    unfolding found_in
-    there =
-        case (λ q. cond q (Some at_place) None ≡ Some f → (x < e.count) × (f ≡ at_place))
-        (ltb x e.count) (λ y p. let z : at_place ≡ f = cc in (ltb-true x e.count (on _ y), sym z)) (λ y p. never (cc)) h
+  there : (f : Entry) → found_in s x ≡ Some f → (x < s.count) × (f ≡ at_place)
+  unfolding found_in
+  there f h =
+      case (λ q. cond q (Some at_place) None ≡ Some f → (x < s.count) × (f ≡ at_place))
+      (ltb x s.count) (λ y p. let z : at_place ≡ f = cc in (ltb-true x s.count (on _ y), sym z)) (λ y p. never (cc)) h
 
+-- the slot that was found
+module _ (e : Entries) (x : ℕ) where
+  pub found_none : found_in e.stored x ≡ None → get_elem? (entries_of e) x ≡ none
+  found_none h = slot_none e.stored.count e.stored.depths e.stored.guards x (there_none e.stored x h)
+
+  module _ (f : Entry) (h : found_in e.stored x ≡ Some f) where
     pub found_slot : get_elem? (entries_of e) x ≡ some (slot f.depth (members f.guard))
-    found_slot = slot_at e.count e.depths e.guards x there.0 ∙ ap (λ (g : Entry). some (slot g.depth (members g.guard))) (sym there.1)
+    found_slot =
+        let k = there e.stored x f h in
+        slot_at e.stored.count e.stored.depths e.stored.guards x k.0 ∙ ap (λ (g : Entry). some (slot g.depth (members g.guard))) (sym k.1)
 
     pub found_low : f.depth ≤ 63
-    found_low = let z : f.depth ≡ get_or e.depths (e.count - 1 - x) 0 = ap (λ (g : Entry). g.depth) there.1 in rw z (e.low (e.count - 1 - x))
+    found_low =
+        let z : f.depth ≡ get_or e.stored.depths (e.stored.count - 1 - x) 0 = ap (λ (g : Entry). g.depth) (there e.stored x f h).1 in
+        rw z (e.low (e.stored.count - 1 - x))
 
 pub same_missing : (f : Option Entry) (d : ℕ) → f ≡ None → false ≡ same_depth f d
 unfolding same_depth

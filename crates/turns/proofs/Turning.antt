@@ -81,11 +81,11 @@ module _ (x d below : ℕ) (es : List Slot) where
       go none = refl
       go (some (slot b g)) = one (eqb d b) _
 
-pub same_depth_lem : (e : Entries) (x d : ℕ) → slot_test (get_elem? (entries_of e) x) (λ b g. eqb d b) ≡ same_depth (found_in e x) d
+pub same_depth_lem : (e : Entries) (x d : ℕ) → slot_test (get_elem? (entries_of e) x) (λ b g. eqb d b) ≡ same_depth (found_in e.stored x) d
 unfolding same_depth
-same_depth_lem e x d = go (found_in e x) refl
+same_depth_lem e x d = go (found_in e.stored x) refl
   where
-    go : (f : program.Option Entry) → found_in e x ≡ f → slot_test (get_elem? (entries_of e) x) (λ b g. eqb d b) ≡ same_depth f d
+    go : (f : program.Option Entry) → found_in e.stored x ≡ f → slot_test (get_elem? (entries_of e) x) (λ b g. eqb d b) ≡ same_depth f d
     go None p = rw (found_none e x p)
     go (Some f) p = rw (found_slot e x f p)
 
@@ -207,10 +207,10 @@ module _ (t : List ℕ) (a d : ℕ) (es : List Slot) where
 
 -- EQIMM, with the entries in arrays
 module _ (t : List ℕ) (a d : ℕ) (e : Entries) {n : ℕ} (o : get_or t a 0 ≡ 6) (f : n ≡ a + 1 + 1) (h : n ≤ length t) where
-  pub stays_other : same_depth (found_in e (get_or t (a + 1) 0)) d ≡ false → StaysAt t a d (entries_of e) (Err DoesNotPass)
+  pub stays_other : same_depth (found_in e.stored (get_or t (a + 1) 0)) d ≡ false → StaysAt t a d (entries_of e) (Err DoesNotPass)
   stays_other q = record { means = λ below. sym (eqimm_if t a d (entries_of e) below o f h ∙ rw (same_depth_lem e (get_or t (a + 1) 0) d, q)) }
 
-  pub stays_eqimm : same_depth (found_in e (get_or t (a + 1) 0)) d ≡ true → StaysAt t a d (entries_of e) (Ok n)
+  pub stays_eqimm : same_depth (found_in e.stored (get_or t (a + 1) 0)) d ≡ true → StaysAt t a d (entries_of e) (Ok n)
   stays_eqimm q = record { means = λ below. sym (eqimm_if t a d (entries_of e) below o f h ∙ rw (same_depth_lem e (get_or t (a + 1) 0) d, q)) }
 
 -- ---- the tests of an IS, in the code's order
@@ -280,10 +280,10 @@ module _ (t : List ℕ) (a d : ℕ) (e : Entries) where
   unfolding eqi_at
   eqi_test_lem = rw (allowed_eqi (get_or t (a + 1) 0) d 0 (entries_of e) (get_or t (a + 2) 0) (pairs_in (take (2 * get_or t (a + 3) 0) (drop (a + 4) t))))
 
-  pub eqi_missing : found_in e (get_or t (a + 1) 0) ≡ None → Err DoesNotPass ≡ eqi_at t a d (entries_of e)
+  pub eqi_missing : found_in e.stored (get_or t (a + 1) 0) ≡ None → Err DoesNotPass ≡ eqi_at t a d (entries_of e)
   eqi_missing f = sym (eqi_test_lem ∙ rw (found_none e (get_or t (a + 1) 0) f, and-false (leb (a + 4 + 2 * get_or t (a + 3) 0) (length t))))
 
-  module _ (b g : ℕ) (f : found_in e (get_or t (a + 1) 0) ≡ Some (record { depth = b; guard = g })) where
+  module _ (b g : ℕ) (f : found_in e.stored (get_or t (a + 1) 0) ≡ Some (record { depth = b; guard = g })) where
     eqi_found : eqi_at t a d (entries_of e)
         ≡ place_if (leb (a + 4 + 2 * get_or t (a + 3) 0) (length t) && eqi_test (get_or t (a + 2) 0) (pairs_in (take (2 * get_or t (a + 3) 0) (drop (a + 4) t))) d b (members g)) (a + 4 + 2 * get_or t (a + 3) 0)
     eqi_found = eqi_test_lem ∙ rw (found_slot e (get_or t (a + 1) 0) (record { depth = b; guard = g }) f)

@@ -3,6 +3,7 @@ use Rattle.std.specs.Prelude.{ℕ, zero, suc, ◌-◌, Bool, false, cond, List, 
 use Rattle.documents.specs.Passing.{Slot, slot}
 use Rattle.indices.specs.Sets.{members}
 use Rattle.turns.specs.declared.entries.Entries.{Entries}
+use Rattle.turns.specs.declared.entries.Stored.{Stored}
 use Rattle.turns.specs.declared.entries.Entry.{Entry}
 
 -- the first n of an array, the last first
@@ -17,10 +18,10 @@ slots (suc n) ds gs = slot (get_or ds n 0) (members (get_or gs n 0)) ∷ slots n
 
 -- the entries, the newest first
 abbrev pub entries_of : Entries → List Slot
-entries_of e = slots e.count e.depths e.guards
+entries_of e = slots e.stored.count e.stored.depths e.stored.guards
 
 -- entry x, counted from the newest
-unfoldable pub found_in : Entries → ℕ → Option Entry
+unfoldable pub found_in : Stored → ℕ → Option Entry
 found_in e x = let i = e.count - 1 - x in cond (ltb x e.count) (Some (record { depth = get_or e.depths i 0; guard = get_or e.guards i 0 })) None
 
 unfoldable pub same_depth : Option Entry → ℕ → Bool

@@ -8,12 +8,18 @@ use instructions::limit::MOST_ENTRIES;
 // The newest last: the depth b, and as guard the set of the indices that its CHECK lists. They go by value.
 // Kept (point 6): 01 wants the checker's state by value, with flat arrays of depths and guards (docs/PROMISES.md, last table).
 #[derive(Clone, Copy)]
-pub struct Entries {
+pub struct Stored {
     pub count: usize,
     pub depths: [u8; MOST_ENTRIES],
     pub guards: [u64; MOST_ENTRIES],
     pub ghost few: { count ≤ 16 },
-    pub ghost low: { (i : ℕ) → get_or depths i 0 ≤ 63 },
+}
+
+// What the match part makes of them: no depth is above 63.
+#[derive(Clone, Copy)]
+pub struct Entries {
+    pub stored: Stored,
+    pub ghost low: { (i : ℕ) → get_or stored.depths i 0 ≤ 63 },
 }
 
 #[derive(Clone, Copy)]
@@ -22,44 +28,14 @@ pub struct Entry {
     pub guard: u64,
 }
 
-impl Entries {
-    ghost use Rattle.turns.specs.Held.{entries_of, found_in, same_depth};
-
-    pub fn new() -> Self
-        ensures { entries_of result ≡ [] }
-    {
-        Entries {
-            count: 0,
-            depths: [0; MOST_ENTRIES],
-            guards: [0; MOST_ENTRIES],
-        }
-    }
-
-    // The newest from now on.
-    pub fn enter(&mut self, depth: u8, guard: u64)
-        requires { (self.old.count < 16) × (depth ≤ 63) }
-        ensures { entries_of self.new ≡ slot depth (members guard) ∷ entries_of self.old }
-    {
-        self.depths[self.count] = depth;
-        self.guards[self.count] = guard;
-        self.count += 1;
-    }
-
-    // Where an entry stands among so many, counted from the newest.
-    pub fn place(count: usize, x: u32) -> Option<usize>
-        ensures { MatchOption result (count ≤ x) (λ i. (x < count) × (i ≡ count - 1 - x)) }
-    {
-        if count <= x as usize {
-            return None;
-        }
-        Some(count - 1 - x as usize)
-    }
+impl Stored {
+    ghost use Rattle.turns.specs.Held.{found_in, same_depth};
 
     // An entry, counted from the newest.
     pub fn find(self, x: u32) -> Option<Entry>
         ensures { result ≡ found_in self x }
     {
-        let i = Entries::place(self.count, x)?;
+        let i = Stored::place(self.count, x)?;
         Some(Entry {
             depth: u32::from(self.depths[i]),
             guard: self.guards[i],
@@ -74,5 +50,41 @@ impl Entries {
             Some(entry) => d == entry.depth,
             None => false,
         }
+    }
+
+    // Where an entry stands among so many, counted from the newest.
+    pub fn place(count: usize, x: u32) -> Option<usize>
+        ensures { MatchOption result (count ≤ x) (λ i. (x < count) × (i ≡ count - 1 - x)) }
+    {
+        if count <= x as usize {
+            return None;
+        }
+        Some(count - 1 - x as usize)
+    }
+}
+
+impl Entries {
+    ghost use Rattle.turns.specs.Held.{entries_of};
+
+    pub fn new() -> Self
+        ensures { entries_of result ≡ [] }
+    {
+        Entries {
+            stored: Stored {
+                count: 0,
+                depths: [0; MOST_ENTRIES],
+                guards: [0; MOST_ENTRIES],
+            },
+        }
+    }
+
+    // The newest from now on.
+    pub fn enter(&mut self, depth: u8, guard: u64)
+        requires { (self.old.stored.count < 16) × (depth ≤ 63) }
+        ensures { entries_of self.new ≡ slot depth (members guard) ∷ entries_of self.old }
+    {
+        self.stored.depths[self.stored.count] = depth;
+        self.stored.guards[self.stored.count] = guard;
+        self.stored.count += 1;
     }
 }

@@ -99,11 +99,11 @@ fn stays(code: &[u32], at: usize, next: usize, entries: Entries, d: u32) -> Resu
         return eqi(code, at, entries, d);
     }
     let stands = if op == SET {
-        entries.count < MOST_ENTRIES
+        entries.stored.count < MOST_ENTRIES
     } else if op == EQVAR {
         code[at + 1] < d
     } else {
-        entries.has_depth(code[at + 1], d)
+        entries.stored.has_depth(code[at + 1], d)
     };
     if !stands {
         return Err(Refusal::DoesNotPass);
@@ -133,7 +133,7 @@ fn eqi(code: &[u32], at: usize, entries: Entries, d: u32) -> Result<usize, Refus
     requires { (at + 4 ≤ length code.now) × (d ≤ 63) }
     ensures { result ≡ eqi_at code.now at d (entries_of entries) }
 {
-    let Some(Entry { depth: b, guard }) = entries.find(code[at + 1]) else {
+    let Some(Entry { depth: b, guard }) = entries.stored.find(code[at + 1]) else {
         return Err(Refusal::DoesNotPass);
     };
     if code[at + 2] != d + D_SHIFT - b || MOST_PAIRS < code[at + 3] {

@@ -78,21 +78,21 @@ pub build-bounds-code-at-then-op-gt-PUSHVAR : goal.build-bounds-code-at-then-op-
 build-bounds-code-at-then-op-gt-PUSHVAR t c = let k = entry_operand c.loop-at.invariant c.loop-at-test.true c.requires.1 (sym c.fetch.ensures ∙ c.in_ok-next.was) c.if-op-gt-PUSHVAR.true in search rules
 
 pub build-returns-in_default-place : goal.build-returns-in_default-place
-build-returns-in_default-place t c = ends_absent c.loop-at.invariant c.loop-at-test.true c.requires.1 (sym c.fetch.ensures ∙ c.in_ok-next.was) c.if-op-gt-PUSHVAR.true (found_none _ _ (sym (found_missing c.args.entries _ c.in_default-place.ensures)))
+build-returns-in_default-place t c = ends_absent c.loop-at.invariant c.loop-at-test.true c.requires.1 (sym c.fetch.ensures ∙ c.in_ok-next.was) c.if-op-gt-PUSHVAR.true (found_none c.args.entries _ (sym (found_missing c.args.entries.stored _ c.in_default-place.ensures)))
 
 pub build-push-requires : goal.build-push-requires
-build-push-requires t c = let p = c.requires in let g = c.loop-at.invariant.grows in let m = c.decreases in let k = entry_operand c.loop-at.invariant c.loop-at-test.true c.requires.1 (sym c.fetch.ensures ∙ c.in_ok-next.was) c.if-op-gt-PUSHVAR.true in (omega arith, (omega arith, omega arith, entry_operands c.loop-at.invariant c.loop-at-test.true c.requires.1 (sym c.fetch.ensures ∙ c.in_ok-next.was) c.if-op-gt-PUSHVAR.true, p.1, p.2, found_entry c.args.entries _ c.in-Some-place.ensures c.from.ensures))
+build-push-requires t c = let p = c.requires in let g = c.loop-at.invariant.grows in let m = c.decreases in let k = entry_operand c.loop-at.invariant c.loop-at-test.true c.requires.1 (sym c.fetch.ensures ∙ c.in_ok-next.was) c.if-op-gt-PUSHVAR.true in (omega arith, (omega arith, omega arith, entry_operands c.loop-at.invariant c.loop-at-test.true c.requires.1 (sym c.fetch.ensures ∙ c.in_ok-next.was) c.if-op-gt-PUSHVAR.true, p.1, p.2, found_entry c.args.entries.stored _ c.in-Some-place.ensures c.from.ensures))
 
 pub build-returns-in_err-at : goal.build-returns-in_err-at
 build-returns-in_err-at t c =
     let p = err_from_is_err_and c.from_residual-in_err-at.result c.from_residual-in_err-at.ensures.1 in
-    rw (p.1, p.2, entry_refused _ _ _ _ _ _ _ _ (sym c.push.ensures ∙ c.in_err-at.was)) (ends_entry c.loop-at.invariant c.loop-at-test.true c.requires.1 (sym c.fetch.ensures ∙ c.in_ok-next.was) c.if-op-gt-PUSHVAR.true refl (found_slot _ _ _ (found_entry c.args.entries _ c.in-Some-place.ensures c.from.ensures)) c.push.ensures _ c.in_err-at.was)
+    rw (p.1, p.2, entry_refused _ _ _ _ _ _ _ _ (sym c.push.ensures ∙ c.in_err-at.was)) (ends_entry c.loop-at.invariant c.loop-at-test.true c.requires.1 (sym c.fetch.ensures ∙ c.in_ok-next.was) c.if-op-gt-PUSHVAR.true refl (found_slot c.args.entries _ _ (found_entry c.args.entries.stored _ c.in-Some-place.ensures c.from.ensures)) c.push.ensures _ c.in_err-at.was)
 
 pub build-loop-at-smaller-then-op-gt-PUSHVAR : goal.build-loop-at-smaller-then-op-gt-PUSHVAR
-build-loop-at-smaller-then-op-gt-PUSHVAR t c = let w = entry_range c.loop-at.invariant c.loop-at-test.true c.requires.1 (sym c.fetch.ensures ∙ c.in_ok-next.was) c.if-op-gt-PUSHVAR.true refl (found_slot _ _ _ (found_entry c.args.entries _ c.in-Some-place.ensures c.from.ensures)) c.push.ensures _ c.in_ok-at.was in omega arith
+build-loop-at-smaller-then-op-gt-PUSHVAR t c = let w = entry_range c.loop-at.invariant c.loop-at-test.true c.requires.1 (sym c.fetch.ensures ∙ c.in_ok-next.was) c.if-op-gt-PUSHVAR.true refl (found_slot c.args.entries _ _ (found_entry c.args.entries.stored _ c.in-Some-place.ensures c.from.ensures)) c.push.ensures _ c.in_ok-at.was in omega arith
 
 pub build-loop-at-preserved-then-op-gt-PUSHVAR : goal.build-loop-at-preserved-then-op-gt-PUSHVAR
-build-loop-at-preserved-then-op-gt-PUSHVAR t c = going_entry c.loop-at.invariant c.loop-at-test.true c.requires.1 (sym c.fetch.ensures ∙ c.in_ok-next.was) c.if-op-gt-PUSHVAR.true refl (found_slot _ _ _ (found_entry c.args.entries _ c.in-Some-place.ensures c.from.ensures)) c.push.ensures _ c.in_ok-at.was
+build-loop-at-preserved-then-op-gt-PUSHVAR t c = going_entry c.loop-at.invariant c.loop-at-test.true c.requires.1 (sym c.fetch.ensures ∙ c.in_ok-next.was) c.if-op-gt-PUSHVAR.true refl (found_slot c.args.entries _ _ (found_entry c.args.entries.stored _ c.in-Some-place.ensures c.from.ensures)) c.push.ensures _ c.in_ok-at.was
 
 pub build-plain-requires : goal.build-plain-requires
 build-plain-requires t c = let p = c.requires in let g = c.loop-at.invariant.grows in let w = c.loop-at.invariant.within in let k = fetched_is _ _ _ _ (sym c.fetch.ensures ∙ c.in_ok-next.was) in (omega arith, omega arith)
@@ -115,19 +115,19 @@ pub push-returns-then-code-from-eq-PUSHIMM : goal.push-returns-then-code-from-eq
 push-returns-then-code-from-eq-PUSHIMM t c = entry_whole _ _ _ _ _ _ _ _ c.if-code-from-eq-PUSHIMM.true c.push_whole.ensures
 
 pub push-overflow_sub-nesting : goal.push-overflow_sub-nesting
-push-overflow_sub-nesting t c = let p = found_low _ _ _ c.requires.5 in search rules
+push-overflow_sub-nesting t c = let p = found_low c.args.entries _ _ c.requires.5 in search rules
 
 pub push-returns-then-code-from : goal.push-returns-then-code-from
 push-returns-then-code-from t c = elim c.then-code-from.branch [
   | push-then-code-from-via-then-code-from w ↦
-      let p = found_low _ _ _ c.requires.5 in
-      entry_push _ _ _ _ _ _ _ _ c.if-code-from-eq-PUSHIMM.false (push_other _ _ _ _ _ _ _ c.requires.5 (λ q. w.if-code-from.true (omega arith)))
+      let p = found_low c.args.entries _ _ c.requires.5 in
+      entry_push _ _ _ _ _ _ _ _ c.if-code-from-eq-PUSHIMM.false (push_other _ _ _ c.args.entries _ _ _ c.requires.5 (λ q. w.if-code-from.true (omega arith)))
   | push-then-code-from-via-else-code-from+then-count-gt-MOST_PAIRS w ↦
-      entry_push _ _ _ _ _ _ _ _ c.if-code-from-eq-PUSHIMM.false (push_many _ _ _ _ _ _ _ c.requires.5 w.if-count-gt-MOST_PAIRS.true)
+      entry_push _ _ _ _ _ _ _ _ c.if-code-from-eq-PUSHIMM.false (push_many _ _ _ c.args.entries _ _ _ c.requires.5 w.if-count-gt-MOST_PAIRS.true)
 ]
 
 pub push-bodies-requires : goal.push-bodies-requires
-push-bodies-requires t c = let p = c.requires in let o = p.2 c.if-code-from-eq-PUSHIMM.false in let m = c.decreases in (omega arith, (omega arith, p.3, p.4, found_low _ _ _ p.5))
+push-bodies-requires t c = let p = c.requires in let o = p.2 c.if-code-from-eq-PUSHIMM.false in let m = c.decreases in (omega arith, (omega arith, p.3, p.4, found_low c.args.entries _ _ p.5))
 
 pub push-returns : goal.push-returns
-push-returns t c = let p = found_low _ _ _ c.requires.5 in entry_push _ _ _ _ _ _ _ _ c.if-code-from-eq-PUSHIMM.false (c.bodies.ensures ∙ push_bodies _ _ _ _ _ _ _ c.requires.5 (omega arith) (omega arith))
+push-returns t c = let p = found_low c.args.entries _ _ c.requires.5 in entry_push _ _ _ _ _ _ _ _ c.if-code-from-eq-PUSHIMM.false (c.bodies.ensures ∙ push_bodies _ _ _ c.args.entries _ _ _ c.requires.5 (omega arith) (omega arith))
