@@ -32,8 +32,8 @@ impl Stored {
     ghost use Rattle.turns.specs.Held.{found_in, same_depth};
 
     // An entry, counted from the newest.
-    pub fn find(self, x: u32) -> Option<Entry>
-        ensures { result ≡ found_in self x }
+    pub fn find(&self, x: u32) -> Option<Entry>
+        ensures { result ≡ found_in self.now x }
     {
         let i = Stored::place(self.count, x)?;
         Some(Entry {
@@ -43,8 +43,8 @@ impl Stored {
     }
 
     // Whether it is there, with this depth.
-    pub fn has_depth(self, x: u32, d: u32) -> bool
-        ensures { result ≡ same_depth (found_in self x) d }
+    pub fn has_depth(&self, x: u32, d: u32) -> bool
+        ensures { result ≡ same_depth (found_in self.now x) d }
     {
         match self.find(x) {
             Some(entry) => d == entry.depth,

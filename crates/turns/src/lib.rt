@@ -133,9 +133,8 @@ fn eqi(code: &[u32], at: usize, entries: Entries, d: u32) -> Result<usize, Refus
     requires { (at + 4 ≤ length code.now) × (d ≤ 63) }
     ensures { result ≡ eqi_at code.now at d (entries_of entries) }
 {
-    let Some(Entry { depth: b, guard }) = entries.stored.find(code[at + 1]) else {
-        return Err(Refusal::DoesNotPass);
-    };
+    let found = entries.stored.find(code[at + 1]);
+    let Entry { depth: b, guard } = found.ok_or(Refusal::DoesNotPass)?;
     if code[at + 2] != d + D_SHIFT - b || MOST_PAIRS < code[at + 3] {
         return Err(Refusal::DoesNotPass);
     }
@@ -144,9 +143,7 @@ fn eqi(code: &[u32], at: usize, entries: Entries, d: u32) -> Result<usize, Refus
     if code.len() < end {
         return Err(Refusal::DoesNotPass);
     }
-    let Some(set) = firsts(&code[from..end], guard, b, d) else {
-        return Err(Refusal::DoesNotPass);
-    };
+    let set = firsts(&code[from..end], guard, b, d).ok_or(Refusal::DoesNotPass)?;
     if !all_below(set, b) {
         return Err(Refusal::DoesNotPass);
     }

@@ -7,4 +7,4 @@ pub returns-in_err-i : goal.returns-in_err-i
 returns-in_err-i c = rw c.from_residual.ensures (found_missing _ _ c.in_err-i.ensures)
 
 pub returns : goal.returns
-returns c = sym (found_entry c.args.self c.args.x c.in_ok-i.ensures c.from.ensures)
+returns c = sym (found_entry c.args.self.now c.args.x c.in_ok-i.ensures c.from.ensures)
