@@ -15,7 +15,7 @@ use instructions::fetch;
 use instructions::limit::{MOST_NAME, MOST_PAIRS};
 use tables::compare::D_SHIFT;
 use tables::node::MOST_ARGUMENTS;
-use turns::entries::{Entries, Entry, Stored};
+use turns::entries::{Entries, Entry};
 
 // How instructions ended that made one term: at an ADBMAL, with the place behind it, or with their words.
 // Kept (point 1): both are ends that a caller may want, and neither is a missing one, so an Option's names would say less.
@@ -25,8 +25,7 @@ pub enum Ended {
     Done,
 }
 
-// Instructions from a place on: a block to its ADBMAL; a body, or the whole, to its end. An entry is looked up here, since a function that takes all
-// sixteen keeps a copy of them.
+// Instructions from a place on: a block to its ADBMAL; a body, or the whole, to its end.
 // Kept (point 5): not `&code[..end]` for code and end: an inner body's places are places of the whole code, and the clauses of `Ends`, `bodies_obey` and
 // `entry_obeys` speak of the whole code and an end in it. Each body has an end of its own, so a struct with the entries would be made anew at each.
 #[cycle(bodies_build_push)]
@@ -51,22 +50,15 @@ pub fn build(
             return one_term(terms, Ended::Shut(next));
         }
         if op == LAMBDA {
-            let Some(block) = nesting.block() else {
-                return Err(Refusal::DoesNotPass);
-            };
+            let block = nesting.block().ok_or(Refusal::DoesNotPass)?;
             let Ended::Shut(after) = build(code, next, end, entries, block)? else {
                 return Err(Refusal::DoesNotPass);
             };
             at = after;
             terms += 1;
         } else if PUSHVAR < op {
-            let Some(i) = Stored::place(entries.stored.count, code[at + 1]) else {
-                return Err(Refusal::DoesNotPass);
-            };
-            let entry = Entry {
-                depth: u32::from(entries.stored.depths[i]),
-                guard: entries.stored.guards[i],
-            };
+            let found = entries.stored.find(code[at + 1]);
+            let entry = found.ok_or(Refusal::DoesNotPass)?;
             at = push(code, at + 1, end, entries, nesting, entry)?;
             terms += 1;
         } else {
@@ -171,9 +163,7 @@ fn bodies(
         if entry.depth <= key || end - at - 2 < words {
             return Err(Refusal::DoesNotPass);
         }
-        let Some(inside) = nesting.body() else {
-            return Err(Refusal::DoesNotPass);
-        };
+        let inside = nesting.body().ok_or(Refusal::DoesNotPass)?;
         let body = at + 2;
         let behind = body + words;
         let Ended::Done = build(code, body, behind, entries, inside)? else {
