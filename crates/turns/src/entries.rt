@@ -1,5 +1,5 @@
 // The entries that the match part makes.
-ghost use Rattle.std.specs.Prelude.{◌≡◌, [], ◌∷◌, ℕ, ◌-◌, ◌<◌, ◌≤◌, get_or, MatchOption};
+ghost use Rattle.std.specs.Prelude.{◌≡◌, [], ◌∷◌, ℕ, ◌<◌, ◌≤◌, get_or};
 ghost use Rattle.documents.specs.Passing.{slot};
 ghost use Rattle.indices.specs.Sets.{members};
 
@@ -35,7 +35,10 @@ impl Stored {
     pub fn find(&self, x: u32) -> Option<Entry>
         ensures { result ≡ found_in self.now x }
     {
-        let i = Stored::place(self.count, x)?;
+        if self.count <= x as usize {
+            return None;
+        }
+        let i = self.count - 1 - x as usize;
         Some(Entry {
             depth: u32::from(self.depths[i]),
             guard: self.guards[i],
@@ -50,16 +53,6 @@ impl Stored {
             Some(entry) => d == entry.depth,
             None => false,
         }
-    }
-
-    // Where an entry stands among so many, counted from the newest.
-    pub fn place(count: usize, x: u32) -> Option<usize>
-        ensures { MatchOption result (count ≤ x) (λ i. (x < count) × (i ≡ count - 1 - x)) }
-    {
-        if count <= x as usize {
-            return None;
-        }
-        Some(count - 1 - x as usize)
     }
 }
 

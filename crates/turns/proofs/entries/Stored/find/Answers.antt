@@ -1,10 +1,11 @@
 -- `Stored::find`: the entry stands at the count less one less x, if there are so many.
-use mathlib.Core.Path.{sym}
+use mathlib.Core.Path.{refl, sym}
+use native.Mathlib.Omega.{arith}
 use Rattle.turns.proofs.Entered.{found_missing, found_entry}
 use Rattle.turns.proofs.entries.Stored.find.Goals as goal
 
-pub returns-in_err-i : goal.returns-in_err-i
-returns-in_err-i c = rw c.from_residual.ensures (found_missing _ _ c.in_err-i.ensures)
+pub returns-then-self-x : goal.returns-then-self-x
+returns-then-self-x c = found_missing c.args.self.now c.args.x c.if-self-x.true
 
 pub returns : goal.returns
-returns c = sym (found_entry c.args.self.now c.args.x c.in_ok-i.ensures c.from.ensures)
+returns c = sym (found_entry c.args.self.now c.args.x (omega arith, refl) c.from.ensures)
