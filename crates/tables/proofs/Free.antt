@@ -50,7 +50,7 @@ every_variable f false y = twice (f y)
 look_front : {part : List ℕ} (f : ℕ → Bool) (j : ℕ) → Begins 1 part → every f (fv j (terms 1 part)) ≡ every f (fv j (front part))
 look_front {part} f j b = rw (front_term part b, append-nil (fv j (front part))) refl
 
-module _ {t : List ℕ} {a n : ℕ} (w : Walk t a n) (h : 0 < n) (marks : List ℕ) (j : ℕ) where
+module _ {t : List ℕ} {a n : ℕ} (w : Walk t a n) (h : 0 < n) (marks : List Bool) (j : ℕ) where
   look_variable : get_or t a 0 < 65536
       → every (unmarked marks) (fv j (terms n (drop a t)))
       ≡ not (marked marks j (get_or t a 0)) && every (unmarked marks) (fv j (terms (n - 1) (drop (a + 2) t)))
@@ -93,25 +93,25 @@ module _ {t : List ℕ} {a n : ℕ} (w : Walk t a n) (h : 0 < n) (marks : List �
 -- ---- A walk that looks through the subterm that a part begins with
 
 -- Whether a marked variable is among the terms still owed is what was asked of the subterm.
-pub record Looking (marks : List ℕ) (j : ℕ) (part : List ℕ) (s : Nodes) : Type 0 where
+pub record Looking (marks : List Bool) (j : ℕ) (part : List ℕ) (s : Nodes) : Type 0 where
   pub whole : s.part.now ≡ part
   pub walk : Walking s.part.now s.owed s.at
   pub same : every (unmarked marks) (fv j (owes s)) ≡ every (unmarked marks) (fv j (front part))
 
-pub looking_from : {marks : List ℕ} {j : ℕ} {part : List ℕ} (s : Nodes) → Begins 1 part → starts part s → Looking marks j part s
+pub looking_from : {marks : List Bool} {j : ℕ} {part : List ℕ} (s : Nodes) → Begins 1 part → starts part s → Looking marks j part s
 looking_from {marks} {j} {part} s b h = record {
   whole = h.0;
   walk = rw (h.0, h.1, h.2) (walking_from b);
   same = rw (owes_first part s h) (look_front (unmarked marks) j b);
 }
 
-pub looking_ended : {marks : List ℕ} {j : ℕ} {part : List ℕ} (s t : Nodes) → Looking marks j part s → node_gives s None t → Some t.at ≡ looked marks j (front part)
+pub looking_ended : {marks : List Bool} {j : ℕ} {part : List ℕ} (s t : Nodes) → Looking marks j part s → node_gives s None t → Some t.at ≡ looked marks j (front part)
 looking_ended s t l g =
     let e : s.owed ≤ 0 = omega arith in
     is_words _ (front _) t.at (sym (rw (ended l.walk.walk e) at l.same)) (ap (λ (z : Nodes). z.at) g.1.1 ∙ rw l.whole at (walking_ended l.walk e))
 
 -- a step that gave a node
-module _ {marks : List ℕ} {j : ℕ} {part : List ℕ} (s t : Nodes) (n : Node) (l : Looking marks j part s) (g : node_gives s (Some n) t) where
+module _ {marks : List Bool} {j : ℕ} {part : List ℕ} (s t : Nodes) (n : Node) (l : Looking marks j part s) (g : node_gives s (Some n) t) where
   behind_is : owes t ≡ terms (s.owed - 1 + get_or s.part.now (s.at + 1) 0) (drop (s.at + 2) s.part.now)
   behind_is = rw (g.0, g.1.4, g.1.5, g.1.2) refl
 
@@ -184,28 +184,28 @@ module _ {marks : List ℕ} {j : ℕ} {part : List ℕ} (s t : Nodes) (n : Node)
 -- ---- Marks
 
 -- one more mark
-mark_one : (marks : List ℕ) (v y : ℕ) → length marks ≡ 65 → v < 64 → unmarked (set marks v 1) y ≡ unmarked marks y && not (eqb v y)
+mark_one : (marks : List Bool) (v y : ℕ) → length marks ≡ 65 → v < 64 → unmarked (set marks v true) y ≡ unmarked marks y && not (eqb v y)
 mark_one marks v y l h = go (eqb v y) refl
   where
     and-false : (q : Bool) → false ≡ q && false
     and-false true = refl
     and-false false = refl
 
-    go : (q : Bool) → eqb v y ≡ q → unmarked (set marks v 1) y ≡ unmarked marks y && not q
+    go : (q : Bool) → eqb v y ≡ q → unmarked (set marks v true) y ≡ unmarked marks y && not q
     go true e =
         let z : min y 64 ≡ v = let q = eqb-true v y e in omega arith in
         let k : v < length marks = omega arith in
-        rw (z, get_or-set_same marks v 1 0 k) (and-false (eqb (get_or marks v 0) 0))
+        rw (z, get_or-set_same marks v true false k) (and-false (not (get_or marks v false)))
     go false e =
         let z : (min y 64 ≡ v) → ⊥ = λ q. eqb-false v y e (omega arith) in
-        rw (get_or-set_other marks v (min y 64) 1 0 z) (sym (and-true (unmarked marks y)))
+        rw (get_or-set_other marks v (min y 64) true false z) (sym (and-true (unmarked marks y)))
 
-mark_all_lem : (vs marks : List ℕ) (y : ℕ) → length marks ≡ 65 → Small vs → unmarked (mark_all marks vs) y ≡ unmarked marks y && not (member vs y)
+mark_all_lem : (vs : List ℕ) (marks : List Bool) (y : ℕ) → length marks ≡ 65 → Small vs → unmarked (mark_all marks vs) y ≡ unmarked marks y && not (member vs y)
 mark_all_lem [] marks y l h = sym (and-true (unmarked marks y))
 mark_all_lem (v ∷ vs) marks y l h =
     let k = of_and (ltb v 64) (every (λ y. ltb y 64) vs) (T_of _ h) in
     let lt = ltb-true v 64 (on (ltb v 64) k.0) in
-    mark_all_lem vs (set marks v 1) y (simp length-set l) (on _ k.1) ∙ rw (mark_one marks v y l lt) (neither (unmarked marks y) (eqb v y) (member vs y))
+    mark_all_lem vs (set marks v true) y (simp length-set l) (on _ k.1) ∙ rw (mark_one marks v y l lt) (neither (unmarked marks y) (eqb v y) (member vs y))
   where
     neither : (p q r : Bool) → (p && not q) && not r ≡ p && not (q || r)
     neither true true r = refl
@@ -215,10 +215,10 @@ mark_all_lem (v ∷ vs) marks y l h =
 -- the marks of a list are those of its indices
 pub marked_list : (vs : List ℕ) (t : Term) → Small vs → every (unmarked (marked_with vs)) (freevars t) ≡ clear vs t
 unfolding marked_with clear
-marked_list vs t h = ap (λ (f : ℕ → Bool). every f (freevars t)) (fun_ext (λ y. mark_all_lem vs (replicate 65 0) y (length-replicate {A = ℕ} 65 0) h ∙ ap (λ (q : Bool). q && not (member vs y)) (none y)))
+marked_list vs t h = ap (λ (f : ℕ → Bool). every f (freevars t)) (fun_ext (λ y. mark_all_lem vs (replicate 65 false) y (length-replicate {A = Bool} 65 false) h ∙ ap (λ (q : Bool). q && not (member vs y)) (none y)))
   where
-    none : (y : ℕ) → unmarked (replicate 65 0) y ≡ true
-    none y = rw (get_or-replicate {A = ℕ} 65 (min y 64) 0 0 (omega arith)) refl
+    none : (y : ℕ) → unmarked (replicate 65 false) y ≡ true
+    none y = rw (get_or-replicate {A = Bool} 65 (min y 64) false false (omega arith)) refl
 
 -- where nothing is listed nothing is forbidden
 pub clear_empty : (vs : List ℕ) (t : Term) → length vs ≡ 0 → true ≡ clear vs t
@@ -231,34 +231,38 @@ clear_empty [] t e = sym (all_hold (freevars t))
 clear_empty (v ∷ vs) t e = absurd (omega arith)
 
 -- marks everywhere forbid every free variable
-pub marked_everywhere : (t : Term) → every (unmarked (replicate 65 1)) (freevars t) ≡ closed t
+pub marked_everywhere : (t : Term) → every (unmarked (replicate 65 true)) (freevars t) ≡ closed t
 marked_everywhere t = go (freevars t)
   where
-    go : (l : List ℕ) → every (unmarked (replicate 65 1)) l ≡ is_empty l
+    go : (l : List ℕ) → every (unmarked (replicate 65 true)) l ≡ is_empty l
     go [] = refl
-    go (y ∷ l) = rw (get_or-replicate {A = ℕ} 65 (min y 64) 1 0 (omega arith)) refl
+    go (y ∷ l) = rw (get_or-replicate {A = Bool} 65 (min y 64) true false (omega arith)) refl
 
 -- ---- In the code's form
 
-module _ (marks : List ℕ) (n x : ℕ) where
+not_not : (q : Bool) → not (not q) ≡ q
+not_not true = refl
+not_not false = refl
+
+module _ (marks : List Bool) (n x : ℕ) where
   pub not_free : x < n → false ≡ marked marks n x
   not_free h = rw (lt-ltb x n h) refl
 
-  pub own_mark : n ≤ x → x - n < 64 → not (eqb (get_or marks (x - n) 0) 0) ≡ marked marks n x
-  own_mark h k = let z : min (x - n) 64 ≡ x - n = omega arith in rw (le-ltb x n h, z) refl
+  pub own_mark : n ≤ x → x - n < 64 → get_or marks (x - n) false ≡ marked marks n x
+  own_mark h k = let z : min (x - n) 64 ≡ x - n = omega arith in rw (le-ltb x n h, z) (sym (not_not (get_or marks (x - n) false)))
 
-  pub shared_mark : n ≤ x → 64 ≤ x - n → not (eqb (get_or marks 64 0) 0) ≡ marked marks n x
-  shared_mark h k = let z : min (x - n) 64 ≡ 64 = omega arith in rw (le-ltb x n h, z) refl
+  pub shared_mark : n ≤ x → 64 ≤ x - n → get_or marks 64 false ≡ marked marks n x
+  shared_mark h k = let z : min (x - n) 64 ≡ 64 = omega arith in rw (le-ltb x n h, z) (sym (not_not (get_or marks 64 false)))
 
-pub mark_from : (indices : List ℕ) → mark_all (replicate 65 0) indices ≡ marked_with indices
+pub mark_from : (indices : List ℕ) → mark_all (replicate 65 false) indices ≡ marked_with indices
 unfolding marked_with
 mark_from indices = refl
 
 -- what is left of a list when one index is marked
-pub mark_next : (indices marks : List ℕ) (i : ℕ) → i < length indices → mark_all marks (drop i indices) ≡ mark_all (set marks (get_or indices i 0) 1) (drop (i + 1) indices)
+pub mark_next : (indices : List ℕ) (marks : List Bool) (i : ℕ) → i < length indices → mark_all marks (drop i indices) ≡ mark_all (set marks (get_or indices i 0) true) (drop (i + 1) indices)
 mark_next indices marks i h = rw (drop-cons indices i 0 h, add-one i) refl
 
-pub mark_done : (indices marks : List ℕ) (i : ℕ) → length indices ≤ i → mark_all marks (drop i indices) ≡ marks
+pub mark_done : (indices : List ℕ) (marks : List Bool) (i : ℕ) → length indices ≤ i → mark_all marks (drop i indices) ≡ marks
 mark_done indices marks i h = rw (drop_of_length-le indices h) refl
 
 pub small_next : (indices : List ℕ) (i : ℕ) → i < length indices → Small (drop i indices) → (get_or indices i 0 < 64) × Small (drop (i + 1) indices)

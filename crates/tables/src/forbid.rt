@@ -30,25 +30,25 @@ pub fn is_closed(part: &[u32]) -> bool
     requires { Begins 1 part.now }
     ensures { result ≡ closed (front part.now) }
 {
-    let marks = [1u8; MARKS];
+    let marks = [true; MARKS];
     look(part, &marks, 0).is_some()
 }
 
 // The marks of a CHECK's list.
-fn marks_of(indices: &[u32]) -> [u8; MARKS]
+fn marks_of(indices: &[u32]) -> [bool; MARKS]
     requires { Small indices.now }
     ensures { result ≡ marked_with indices.now }
 {
-    let mut marks = [0u8; MARKS];
+    let mut marks = [false; MARKS];
     for &index in indices {
-        marks[index as usize] = 1;
+        marks[index as usize] = true;
     }
     marks
 }
 
 // Looks through the subterm that a part begins with, under so many abstractions: how many words it has, if no free variable of it is marked.
 // Only an abstraction takes a call.
-fn look(part: &[u32], marks: &[u8; MARKS], under: usize) -> Option<usize>
+fn look(part: &[u32], marks: &[bool; MARKS], under: usize) -> Option<usize>
     requires { Begins 1 part.now × (under + length part.now < 2 ^ 64) }
     ensures { result ≡ looked marks.now under (front part.now) }
 {
@@ -65,7 +65,7 @@ fn look(part: &[u32], marks: &[u8; MARKS], under: usize) -> Option<usize>
 }
 
 // Whether a variable, met under so many abstractions, is free there and marked.
-fn is_marked(marks: &[u8; MARKS], index: usize, under: usize) -> bool
+fn is_marked(marks: &[bool; MARKS], index: usize, under: usize) -> bool
     ensures { result ≡ marked marks.now under index }
 {
     if index < under {
@@ -73,7 +73,7 @@ fn is_marked(marks: &[u8; MARKS], index: usize, under: usize) -> bool
     }
     let free = index - under;
     if free < LISTED {
-        return marks[free] != 0;
+        return marks[free];
     }
-    marks[LISTED] != 0
+    marks[LISTED]
 }
