@@ -1,7 +1,6 @@
 -- The rules of a set, tried one after the other: `left` is the set without those that were tried, which all fail. Its lowest bit is the next rule to try.
 use mathlib.Core.Path.{◌≡◌, refl, sym, ap, ◌∙◌}
-use Prim.Native.Nat.{ℕ, zero, suc, ◌+◌, ◌-◌, ◌*◌, ◌/◌, ◌%◌, ◌^◌, ◌≤◌, ◌<◌}
-use native.Mathlib.Nat.{div-div-eq-div-mul}
+use Prim.Native.Nat.{ℕ, zero, suc, ◌+◌, ◌-◌, ◌/◌, ◌%◌, ◌^◌, ◌≤◌, ◌<◌}
 use native.Mathlib.Omega.{arith}
 use mathlib.Core.Bool.{Bool, true, false}
 use mathlib.Core.Option.{none, some, some-injective}
@@ -10,8 +9,10 @@ use lib.Bits.{bit_and}
 use lib.Count.{count_trailing_zeros}
 use lib.Dec.{eqb, ltb}
 use lib.ListN.{length, get_or, get_elem?}
-use lib.Pow.{pow-add, pow_pos, pow_mono, split}
+use lib.Pow.{pow_mono}
 use borrow.Author.Tests.{eqb-true, eq-eqb, ne_eqb, ltb-true, ltb-false}
+use Rattle.std.specs.Int.{w32}
+use Rattle.std.proofs.lemmas.Nat.Bits.{bit_at_above, bit_at-trailing_zeros}
 use Rattle.std.specs.Prelude.{Result, Ok, Err, Some, None}
 use Rattle.documents.specs.declared.Refusal.{Refusal}
 use Rattle.documents.specs.Terms.{Term}
@@ -34,7 +35,7 @@ use Rattle.matcher.specs.Ready.{Ready, ComesTo, Comes}
 use Rattle.rule_table.specs.Places.{code_at}
 use Rattle.rule_table.proofs.Placed.{below_member, placed_below, placed_inside, placed_passes, placed_holds}
 use Rattle.search.specs.Searches.{Trying, Tries}
-use Rattle.search.proofs.Lowest.{below_lowest, lowest_bit, others_stay}
+use Rattle.search.proofs.Lowest.{others_stay}
 
 -- what is left of the set is again one without whose rules none matches
 pub record Attempting (rules starts : List ℕ) (set : ℕ) (part entries now : List ℕ) (left : ℕ) : Type 0 where
@@ -56,20 +57,6 @@ ready_makes {part = part} {c = c} y =
     (r.term, ap machine.made (y.goes ∙ e))
 
 -- ---- Bits
-
--- a set below 2 ^ n has no rule from n on
-none_from : (set n i : ℕ) → set < 2 ^ n → n ≤ i → set / 2 ^ i ≡ 0
-none_from set n i h l =
-    let e : 2 ^ i ≡ 2 ^ n * 2 ^ (i - n) = let z : i ≡ n + (i - n) = omega arith in ap (λ (k : ℕ). 2 ^ k) z ∙ pow-add 2 n (i - n) in
-    let z : set / 2 ^ n ≡ 0 = small (set / 2 ^ n) (2 ^ n) (let s = split set n in omega arith) in
-    ap (λ (m : ℕ). set / m) e ∙ (sym (div-div-eq-div-mul set (2 ^ n) (2 ^ (i - n))) ∙ (ap (λ (m : ℕ). m / 2 ^ (i - n)) z ∙ nothing (i - n)))
-  where
-    small : (q p : ℕ) → q * p < p → q ≡ 0
-    small zero p h = refl
-    small (suc q) p h = absurd (omega arith)
-
-    nothing : (k : ℕ) → 0 / 2 ^ k ≡ 0
-    nothing k = small (0 / 2 ^ k) (2 ^ k) (let s = split 0 k in let p = pow_pos k in omega arith)
 
 not_in : (set i : ℕ) → set / 2 ^ i % 2 ≡ 0 → has set i ≡ false
 not_in set i e = ne_eqb (set / 2 ^ i % 2) 1 (λ f. omega arith)
@@ -100,19 +87,21 @@ module _ {rules starts : List ℕ} {set : ℕ} {part entries now : List ℕ} {le
   low : left < 2 ^ 32
   low = omega (arith, (a.candidates cs t).low, pow_mono {i = length cs} {j = 32} t.places.few)
 
+  lowest : (count_trailing_zeros 32 left < 32) × (left / 2 ^ count_trailing_zeros 32 left % 2 ≡ 1) × ((i : ℕ) → i < count_trailing_zeros 32 left → left / 2 ^ i % 2 ≡ 0)
+  lowest = bit_at-trailing_zeros w32 left (positive left some_left) low
+
   next_below : count_trailing_zeros 32 left < length cs
   next_below = go (ltb (count_trailing_zeros 32 left) (length cs)) refl
     where
       go : (b : Bool) → ltb (count_trailing_zeros 32 left) (length cs) ≡ b → count_trailing_zeros 32 left < length cs
       go true q = ltb-true (count_trailing_zeros 32 left) (length cs) q
       go false q =
-          let z = none_from left (length cs) (count_trailing_zeros 32 left) (a.candidates cs t).low (ltb-false (count_trailing_zeros 32 left) (length cs) q) in
-          let y : 0 % 2 ≡ 1 = ap (λ (m : ℕ). m % 2) (sym z) ∙ lowest_bit 32 left (positive left some_left) low in
-          absurd (omega arith)
+          let z = bit_at_above left (length cs) (count_trailing_zeros 32 left) (a.candidates cs t).low (ltb-false (count_trailing_zeros 32 left) (length cs) q) in
+          absurd (omega (arith, z, lowest.1))
 
   -- the rules before it are not in the set
   missed_before : (i : ℕ) (c : Program) → i < count_trailing_zeros 32 left → get_elem? cs i ≡ some c → run c (front part) ≡ fails
-  missed_before i c h e = (a.candidates cs t).others i c e (not_in left i (below_lowest 32 left i h))
+  missed_before i c h e = (a.candidates cs t).others i c e (not_in left i (lowest.2 i h))
 
   next_rule : (c : Program) × (get_elem? cs (count_trailing_zeros 32 left) ≡ some c)
   next_rule = below_member cs (count_trailing_zeros 32 left) next_below
