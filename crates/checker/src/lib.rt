@@ -55,7 +55,7 @@ fn obeys(code: &[u32]) -> Result<(), Refusal>
         }
         let top = terms - 1;
         let d = current[top];
-        let turned = turn(code, at, entries, d, top)?;
+        let turned = turn(code, at, &entries, d, top)?;
         terms = top + turned.terms;
         current[top..terms].fill(turned.depth);
         if op == SET {

@@ -32,12 +32,12 @@ pub struct Turned {
 pub fn turn(
     code: &[u32],
     at: usize,
-    entries: Entries,
+    entries: &Entries,
     d: u8,
     below: usize,
 ) -> Result<Turned, Refusal>
     requires { (at < length code.now) × (get_or code.now at 0 ≤ 7) × (below < 256) × (d ≤ 63) }
-    ensures { result ≡ turn_at code.now at d below (entries_of entries) }
+    ensures { result ≡ turn_at code.now at d below (entries_of entries.now) }
 {
     let next = fetch(code, at, code.len())?;
     let op = code[at];
@@ -87,9 +87,9 @@ fn arguments(name: u32, count: u32, next: usize, d: u8, below: usize) -> Result<
 }
 
 // CHECK to EQI leave the top.
-fn stays(code: &[u32], at: usize, next: usize, entries: Entries, d: u32) -> Result<usize, Refusal>
+fn stays(code: &[u32], at: usize, next: usize, entries: &Entries, d: u32) -> Result<usize, Refusal>
     requires { (at < length code.now) × (3 ≤ get_or code.now at 0) × (get_or code.now at 0 ≤ 7) × (next ≡ at + 1 + fixed_after (get_or code.now at 0)) × (next ≤ length code.now) × (d ≤ 63) }
-    ensures { StaysAt code.now at d (entries_of entries) result }
+    ensures { StaysAt code.now at d (entries_of entries.now) result }
 {
     let op = code[at];
     if op == CHECK {
@@ -129,9 +129,9 @@ fn each_below(list: &[u32], d: u32) -> bool
     list.iter().all(|index| *index < d)
 }
 
-fn eqi(code: &[u32], at: usize, entries: Entries, d: u32) -> Result<usize, Refusal>
+fn eqi(code: &[u32], at: usize, entries: &Entries, d: u32) -> Result<usize, Refusal>
     requires { (at + 4 ≤ length code.now) × (d ≤ 63) }
-    ensures { result ≡ eqi_at code.now at d (entries_of entries) }
+    ensures { result ≡ eqi_at code.now at d (entries_of entries.now) }
 {
     let found = entries.stored.find(code[at + 1]);
     let Entry { depth: b, guard } = found.ok_or(Refusal::DoesNotPass)?;

@@ -22,15 +22,15 @@ returns-then-not-stands c =
     let p = c.requires in
     elim c.if-op-eq-SET.branch [
       | then-op-eq-SET w ↦
-          let k = entries_length s.entries in
-          let h = ltb-false s.entries.stored.count 16 (sym w.stands-is ∙ c.if-not-stands.true) in
+          let k = entries_length s.entries.now in
+          let h = ltb-false s.entries.now.stored.count 16 (sym w.stands-is ∙ c.if-not-stands.true) in
           stays_full _ _ _ _ w.if-op-eq-SET.true (fixed_of s.code.now s.at 4 p.3 w.if-op-eq-SET.true) p.4 (omega arith)
       | else-op-eq-SET+then-op-eq-EQVAR w ↦
           let h = ltb-false (get_or s.code.now (s.at + 1) 0) s.d (sym w.stands-is ∙ c.if-not-stands.true) in
           stays_high _ _ _ _ w.if-op-eq-EQVAR.true (fixed_of s.code.now s.at 5 p.3 w.if-op-eq-EQVAR.true) p.4 (omega arith)
       | else-op-eq-SET+else-op-eq-EQVAR w ↦
           let o : get_or s.code.now s.at 0 ≡ 6 = omega (arith, w.if-op-eq-SET.false, w.if-op-eq-EQVAR.false) in
-          stays_other _ _ _ s.entries o (fixed_of s.code.now s.at 6 p.3 o) p.4 (sym w.has_depth.ensures ∙ sym w.stands-is ∙ c.if-not-stands.true)
+          stays_other _ _ _ s.entries.now o (fixed_of s.code.now s.at 6 p.3 o) p.4 (sym w.has_depth.ensures ∙ sym w.stands-is ∙ c.if-not-stands.true)
     ]
 
 pub returns : goal.returns
@@ -39,13 +39,13 @@ returns c =
     let p = c.requires in
     elim c.if-op-eq-SET.branch [
       | then-op-eq-SET w ↦
-          let k = entries_length s.entries in
-          let h = ltb-true s.entries.stored.count 16 (sym w.stands-is ∙ c.if-not-stands.false) in
+          let k = entries_length s.entries.now in
+          let h = ltb-true s.entries.now.stored.count 16 (sym w.stands-is ∙ c.if-not-stands.false) in
           stays_set _ _ _ _ w.if-op-eq-SET.true (fixed_of s.code.now s.at 4 p.3 w.if-op-eq-SET.true) p.4 (omega arith)
       | else-op-eq-SET+then-op-eq-EQVAR w ↦
           let h = ltb-true (get_or s.code.now (s.at + 1) 0) s.d (sym w.stands-is ∙ c.if-not-stands.false) in
           stays_eqvar _ _ _ _ w.if-op-eq-EQVAR.true (fixed_of s.code.now s.at 5 p.3 w.if-op-eq-EQVAR.true) p.4 h
       | else-op-eq-SET+else-op-eq-EQVAR w ↦
           let o : get_or s.code.now s.at 0 ≡ 6 = omega (arith, w.if-op-eq-SET.false, w.if-op-eq-EQVAR.false) in
-          stays_eqimm _ _ _ s.entries o (fixed_of s.code.now s.at 6 p.3 o) p.4 (sym w.has_depth.ensures ∙ sym w.stands-is ∙ c.if-not-stands.false)
+          stays_eqimm _ _ _ s.entries.now o (fixed_of s.code.now s.at 6 p.3 o) p.4 (sym w.has_depth.ensures ∙ sym w.stands-is ∙ c.if-not-stands.false)
     ]
