@@ -26,6 +26,7 @@ pub enum Ended {
 }
 
 // Instructions from a place on: a block to its ADBMAL; a body, or the whole, to its end.
+// Kept (point 7): as in matcher's step, an opcode has a test of its own.
 // Kept (point 5): not `&code[..end]` for code and end: an inner body's places are places of the whole code, and the clauses of `Ends`, `bodies_obey` and
 // `entry_obeys` speak of the whole code and an end in it. Each body has an end of its own, so a struct with the entries would be made anew at each.
 #[cycle(bodies_build_push)]
@@ -138,6 +139,7 @@ fn push_whole(next: usize, nesting: Nesting, b: u32) -> Result<usize, Refusal>
     Ok(next)
 }
 
+// Kept (point 3): a body's words are looked at before they are gone behind, so no iterator over bodies can give the next one.
 // So many bodies behind their keys, these below the entry's depth; with its guard they cover all below it.
 #[cycle(bodies_build_push)]
 fn bodies(

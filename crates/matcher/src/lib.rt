@@ -74,6 +74,8 @@ pub fn enter(entries: &mut [u32], made: usize, op: u32, top: usize) -> usize
     made + 1
 }
 
+// Kept (points 5, 6): code and subject are lent for all steps, and the entries to `enter` alone to be written, so a struct of the three would be made
+// anew at each step; no heap, so the standing says how many entries there are.
 // One match instruction, but for what a SET enters: so many entries as before.
 pub fn step(
     code: &[u32],

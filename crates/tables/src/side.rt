@@ -34,6 +34,7 @@ pub fn is_simple(part: &[u32]) -> bool
     true
 }
 
+// Kept (point 5): a part and how many of its first terms: a type of the two would be made of other words at each call, and its fact is `Begins`.
 // The first terms of a part, so many, are variables, and no two of them are the same.
 fn distinct_variables(part: &[u32], count: u32) -> bool
     requires { Begins count part.now }

@@ -31,6 +31,7 @@ pub fn build_part(code: &[u32], from: usize, i: u32) -> u32
 }
 
 // One instruction. LAMBDA makes no term, ADBMAL takes one and makes one.
+// Kept (point 7): as in matcher's step, an opcode has a test of its own.
 fn grow(code: &[u32], at: usize, finished: u32) -> Built
     requires { Counted code.now at finished × (at < length code.now) }
     ensures { Grows code.now at finished result }
