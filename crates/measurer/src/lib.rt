@@ -10,7 +10,7 @@ ghost use Rattle.measurer.specs.Measuring.{AsksSequence, Measures, AsksPush, Pus
 
 use crate::walk::{Push, Walk};
 use documents::op::{ADBMAL, LAMBDA, PUSHIMM, PUSHVAR, fixed_words};
-use instructions::body::{Bodies, behind, find};
+use instructions::body::{behind, find};
 use links::link::{Link, Note};
 use links::variable::{is_free, moved};
 use links::{LEVEL, NODES_AT};
@@ -166,8 +166,10 @@ fn forget(code: &[u32], bodies: usize, count: u32, work: &mut [u32])
     requires { Readable code.now bodies count × (length code.now ≤ length work.old) }
     ensures { work.new ≡ forgotten code.now work.old bodies count }
 {
-    for key in Bodies::of(code, bodies, count) {
-        work[key] = 0;
+    let mut at = bodies;
+    for _ in 0..count {
+        work[at] = 0;
+        at = at + 2 + code[at + 1] as usize;
     }
 }
 

@@ -1,7 +1,7 @@
 -- `body::behind`: the place behind the bodies that were passed.
-use Rattle.std.proofs.Common.{◌≡◌}
+use Rattle.std.proofs.Common.{◌-◌}
 use Rattle.instructions.proofs.Bodies.{Passing}
 use Rattle.instructions.proofs.body.behind.Given as goal
 
 abbrev pub invariant-loop : goal.invariant-loop
-invariant-loop l = (l.walk.code.now ≡ l.code) × Passing l.code l.bodies l.count l.walk.at l.walk.left
+invariant-loop l = Passing l.code l.bodies l.count l.at (l.count - l.counter)
