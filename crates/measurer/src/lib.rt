@@ -162,6 +162,7 @@ fn push(walk: &Walk, at: usize, work: &mut [u32]) -> Option<Span>
 }
 
 // None of so many bodies is measured yet.
+// Kept (points 2, 3): as in `instructions::body`.
 fn forget(code: &[u32], bodies: usize, count: u32, work: &mut [u32])
     requires { Readable code.now bodies count × (length code.now ≤ length work.old) }
     ensures { work.new ≡ forgotten code.now work.old bodies count }

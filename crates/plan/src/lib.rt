@@ -51,6 +51,7 @@ pub fn line_for(file: &[u8], line: &mut [u8; LINE_BYTES]) -> usize
 }
 
 // Reads, compiles and runs. The first call that refuses ends the work.
+// Kept (point 5): a public function, which asks for its tables one by one as the calls of C do.
 pub fn apply(
     file: &[u8],
     left: &mut [u32],

@@ -139,6 +139,7 @@ fn set_aside(plan: &mut Plan, first: usize, end: usize, next: usize, work: &mut 
     copy(&work[behind..all], &mut plan.table[next..]);
 }
 
+// Kept (point 5): each of these is an argument of builder's `put_before`, and no other function takes them together.
 // The new words, before a place of the plan. The working table is lent to read alone, so that two parts of it can be.
 fn put_in(
     code: &[u32],
