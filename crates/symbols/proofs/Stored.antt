@@ -38,6 +38,14 @@ length_rows_of table =
     let z : length table.words ≡ 176 = table.size in
     rw (l, d, z) refl
 
+-- eleven words a row, and no word besides
+pub rows_whole : (table : SymbolTable) → 176 - table.first ≡ 11 * length (rows_of table)
+rows_whole table =
+    let l = length_rows_of table in
+    let w : table.first % 11 ≡ 0 = table.whole in
+    let i : table.first ≤ 176 = table.within in
+    omega arith
+
 pub rows_few : (table : SymbolTable) → length (rows_of table) ≤ 16
 rows_few table = let l = length_rows_of table in omega arith
 

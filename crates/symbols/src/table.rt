@@ -1,5 +1,5 @@
 // The symbol table itself: its rows, and entering one.
-ghost use Rattle.std.specs.Prelude.{◌≡◌, true, [], ◌∷◌, ◌+◌, ◌%◌, ◌≤◌, ◌<◌, eqb, length};
+ghost use Rattle.std.specs.Prelude.{◌≡◌, true, [], ◌∷◌, ◌+◌, ◌*◌, ◌%◌, ◌≤◌, ◌<◌, eqb, length};
 ghost use Rattle.std.proofs.lemmas.List.Edits.{sets};
 ghost use Rattle.documents.specs.Rules.{are_vars};
 ghost use Rattle.documents.specs.Translation.{row, unvar};
@@ -36,6 +36,7 @@ impl SymbolTable {
     pub fn rows(&self) -> &[u32]
         ensures rows { rows_in result.now ≡ rows_of self.now }
         ensures few { length result.now ≤ 176 }
+        ensures whole { length result.now ≡ 11 * length (rows_of self.now) }
     {
         &self.words[self.first..]
     }
