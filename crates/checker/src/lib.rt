@@ -33,7 +33,9 @@ pub fn check(code: &[u32]) -> Result<(), Refusal>
     obeys(code)
 }
 
-// The match part: from one current term of depth 0 to the first build instruction.
+// The match part: from one current term of depth 0 to the first build instruction. Not put into `check`, so that code that is too long takes none of
+// its stack.
+#[inline(never)]
 fn obeys(code: &[u32]) -> Result<(), Refusal>
     requires { length code.now ≤ 4096 }
     ensures { result ≡ verdict (passes_at code.now 0 (matching (0 ∷ []) [] [])) }

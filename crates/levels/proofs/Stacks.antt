@@ -2,37 +2,49 @@
 use mathlib.Core.Path.{◌≡◌, refl, sym, ap, ap₂, ◌∙◌}
 use Prim.Native.Nat.{ℕ, zero, suc, ◌+◌, ◌-◌, ◌*◌, ◌/◌, ◌%◌, ◌≤◌, ◌<◌}
 use native.Mathlib.Omega.{arith}
-use mathlib.Core.Bool.{Bool, true, false, cond}
+use mathlib.Core.Bool.{Bool, true, false}
 use mathlib.Core.List.{List, [], ◌∷◌, map, reverse_aux}
 use lib.Dec.{eqb}
-use lib.ListN.{length, get_or, set, take, length-map}
-use lib.Seq.{take-suc, lt-length-set, get_or-set_same, get_or-set_other}
-use Rattle.std.specs.Prelude.{reverse}
-use Rattle.std.specs.List.{suffix_len}
-use Rattle.std.proofs.lemmas.List.{reverse-append}
+use lib.ListN.{length, get_or, set, length-map}
+use lib.Seq.{lt-length-set, get_or-set_same, get_or-set_other}
 use borrow.Author.Tests.{eqb-true, eqb-false, eq-eqb, ne_eqb}
 use Rattle.documents.proofs.Lists.{never}
 use Rattle.levels.specs.Levels.{Level, level, begun, word_of, stacked}
-use Rattle.levels.specs.Owing.{owing_from}
+use Rattle.levels.specs.Owing.{owing_from, Owes}
 use Rattle.levels.proofs.Next.{Owed, unended}
 use Rattle.levels.proofs.Spines.{Low, node_of, again, Backs}
 
 -- ---- Owing
 
--- without the words at the end that owe nothing
-pub owing_end : (above : List ℕ) (k : ℕ) → k ≤ length above → k - suffix_len (λ word. eqb (word % 16) 0) (take k above) ≡ owing_from above k
-unfolding owing_from
-owing_end above zero h = omega arith
-owing_end above (suc k) h =
-    let e : reverse (take (suc k) above) ≡ get_or above k 0 ∷ reverse (take k above) =
-    ap reverse (take-suc above k 0 (omega arith)) ∙ reverse-append (take k above) (get_or above k 0 ∷ []) in
-    let i = owing_end above k (omega arith) in
-    rw e (go (eqb (get_or above k 0 % 16) 0) i)
-  where
-    go : (b : Bool) → k - suffix_len (λ word. eqb (word % 16) 0) (take k above) ≡ owing_from above k
-        → suc k - cond b (1 + suffix_len (λ word. eqb (word % 16) 0) (take k above)) 0 ≡ cond b (owing_from above k) (suc k)
-    go true i = omega (arith, i)
-    go false i = omega arith
+module _ {above : List ℕ} {k : ℕ} (h : Owes above k) where
+  pub owes_some : 1 ≤ k
+  unfolding owing_from
+  owes_some = go k h.some
+    where
+      go : (k : ℕ) → 0 < owing_from above k → 1 ≤ k
+      go zero h = absurd (omega arith)
+      go (suc k) h = omega arith
+
+  -- the last word owes nothing
+  pub owing_falls : get_or above (k - 1) 0 % 16 ≡ 0 → owing_from above (k - 1) ≡ owing_from above k
+  unfolding owing_from
+  owing_falls = go k owes_some
+    where
+      go : (k : ℕ) → 1 ≤ k → get_or above (k - 1) 0 % 16 ≡ 0 → owing_from above (k - 1) ≡ owing_from above k
+      go zero h e = absurd (omega arith)
+      go (suc k) h e = let z : suc k - 1 ≡ k = omega arith in let f : get_or above k 0 % 16 ≡ 0 = rw z at e in rw (z, eq-eqb (get_or above k 0 % 16) 0 f)
+
+  pub owes_falls : get_or above (k - 1) 0 % 16 ≡ 0 → Owes above (k - 1)
+  owes_falls e = record { inside = let i = h.inside in omega arith; some = rw (owing_falls e) h.some }
+
+  -- the last word owes something
+  pub owing_stays : (get_or above (k - 1) 0 % 16 ≡ 0 → ⊥) → k ≡ owing_from above k
+  unfolding owing_from
+  owing_stays = go k owes_some
+    where
+      go : (k : ℕ) → 1 ≤ k → (get_or above (k - 1) 0 % 16 ≡ 0 → ⊥) → k ≡ owing_from above k
+      go zero h e = absurd (omega arith)
+      go (suc k) h e = let z : suc k - 1 ≡ k = omega arith in rw (ne_eqb (get_or above k 0 % 16) 0 (λ f. e (rw z f)))
 
 -- ---- Words of levels
 

@@ -3,8 +3,7 @@
 // words from 1 on, the root first.
 #![tactic(auto)]
 
-ghost use Rattle.std.specs.Prelude.{◌≡◌, ◌==◌, ◌≤◌, ◌<◌, ◌/◌, ◌%◌};
-ghost use Rattle.std.specs.List.{suffix_len};
+ghost use Rattle.std.specs.Prelude.{◌≡◌, ◌≤◌, ◌<◌, ◌/◌};
 ghost use Rattle.documents.specs.Tables.{nodes};
 ghost use Rattle.tables.specs.Parts.{front};
 ghost use Rattle.levels.specs.Levels.{Above};
@@ -48,21 +47,15 @@ impl Levels {
     }
 }
 
-// How many words at the end owe nothing any more.
-fn done(above: &[u32]) -> usize
-    ensures { result ≡ suffix_len (λ word. word % 16 == 0) above.now }
-{
-    above
-        .iter()
-        .rev()
-        .take_while(|word| **word % TERMS == 0)
-        .count()
-}
-
 // Words at the end that owe nothing any more are done.
+// Kept (point 3): counted from the end by `take_while`, which proved, they made a search through a large plan take up to twice its time.
 fn owing(above: &[u32; LEVELS], level: usize) -> usize
     requires { Owes above.now level }
     ensures { result ≡ owing_from above.now level }
 {
-    level - done(&above[..level])
+    let mut here = level;
+    while above[here - 1] % TERMS == 0 {
+        here -= 1;
+    }
+    here
 }

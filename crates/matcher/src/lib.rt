@@ -77,6 +77,8 @@ pub fn enter(entries: &mut [u32], made: usize, op: u32, top: usize) -> usize
 // Kept (points 5, 6): code and subject are lent for all steps, and the entries to `enter` alone to be written, so a struct of the three would be made
 // anew at each step; no heap, so the standing says how many entries there are.
 // One match instruction, but for what a SET enters: so many entries as before.
+// Put into its callers: a standing handed on in memory would be loaded by pairs of words where it was stored word by word, and the processor waits for that.
+#[inline(always)]
 pub fn step(
     code: &[u32],
     part: &[u32],
@@ -87,12 +89,7 @@ pub fn step(
     ensures steps { Steps code.now part.now entries.now here result }
     ensures keeps { IfOk result (λ next. next.made ≡ here.made) }
 {
-    let Standing {
-        at,
-        top,
-        current,
-        made,
-    } = here;
+    let Standing { at, top, .. } = here;
     let op = code[at];
     // Kept (point 7): an opcode says which step it is, and each step moves the place in its own way; closures would be as many, and need the same test.
     if op == IS {
@@ -102,8 +99,8 @@ pub fn step(
         return Ok(Standing {
             at: at + 3,
             top: top + 2,
-            current: current - 1 + code[at + 2] as usize,
-            made,
+            current: here.current - 1 + code[at + 2] as usize,
+            ..here
         });
     }
     if op == ISABST {
@@ -120,8 +117,8 @@ pub fn step(
         return Ok(Standing {
             at: at + 1,
             top: top + skip(&part[top..]),
-            current: current - 1,
-            made,
+            current: here.current - 1,
+            ..here
         });
     }
     if op == SET {

@@ -1,12 +1,11 @@
 use mathlib.Core.Path.{sym, ◌∙◌}
-use Prim.Native.Nat.{◌*◌, ◌+◌, ◌%◌, ◌<◌}
+use Prim.Native.Nat.{◌*◌, ◌%◌}
 use native.Mathlib.Omega.{arith}
-use lib.ListN.{get_or, length}
+use lib.ListN.{get_or}
 use borrow.Author.Rules.{rules}
 use Rattle.survey.proofs.Surveying.{surveying_from, surveying_short, surveying_down, surveying_more, surveying_up, surveying_end, surveyed_refused, refused_here, stands_in, stands_leaf, goes_in_lem, below_most}
 use Rattle.survey.proofs.Noting.{stands}
 use Rattle.survey.proofs.lay.Goals as goal
-use Rattle.survey.proofs.lay.Goals.{then-count-ne0, else-count-ne0+then-here, else-count-ne0+else-here+else-kept-eq0}
 
 pub loop-node-init : goal.loop-node-init
 loop-node-init g c = surveying_from _ (c.requires.short, c.requires.room)
@@ -19,15 +18,15 @@ refusal_at-requires g c = refused_here c.loop-node.invariant (omega arith) (sym 
 
 pub overflow_mul-here : goal.overflow_mul-here
 overflow_mul-here g c =
-    let o = (goes_in_lem _ _ _ (stands_in _ _ _ (sym c.may_stand.ensures ∙ c.if-not-may_stand.false) c.if-count-ne0.true)).narrow in
+    let o = (goes_in_lem _ _ _ (stands_in _ _ _ (sym c.may_stand.ensures ∙ c.if-not-may_stand.false) c.if-count-eq0.false)).narrow in
     search rules
 
 pub inside-requires : goal.inside-requires
-inside-requires g c = (goes_in_lem _ _ _ (stands_in _ _ _ (sym c.may_stand.ensures ∙ c.if-not-may_stand.false) c.if-count-ne0.true)).above
+inside-requires g c = (goes_in_lem _ _ _ (stands_in _ _ _ (sym c.may_stand.ensures ∙ c.if-not-may_stand.false) c.if-count-eq0.false)).above
 
 pub overflow_add-here : goal.overflow_add-here
 overflow_add-here g c =
-    let i = goes_in_lem _ _ _ (stands_in _ _ _ (sym c.may_stand.ensures ∙ c.if-not-may_stand.false) c.if-count-ne0.true) in
+    let i = goes_in_lem _ _ _ (stands_in _ _ _ (sym c.may_stand.ensures ∙ c.if-not-may_stand.false) c.if-count-eq0.false) in
     let o = i.narrow in
     let a = i.above in
     let e = c.inside.ensures in
@@ -39,18 +38,20 @@ returns-then-kept-eq0 g c =
     rw c.whole.ensures
     (surveying_end c.loop-node.invariant (omega arith) (omega arith) (stands_leaf _ _ _ (sym c.may_stand.ensures ∙ c.if-not-may_stand.false) (omega arith)) (omega arith) c.if-kept-eq0.true)
 
+pub loop-node-preserved-then-here : goal.loop-node-preserved-then-here
+loop-node-preserved-then-here g c =
+    let leaf = stands_leaf _ _ _ (sym c.may_stand.ensures ∙ c.if-not-may_stand.false) c.if-count-eq0.true in
+    surveying_more c.loop-node.invariant (omega arith) c.if-count-eq0.true leaf c.if-here.true
+
+pub loop-node-preserved-then-count-eq0 : goal.loop-node-preserved-then-count-eq0
+loop-node-preserved-then-count-eq0 g c =
+    let leaf = stands_leaf _ _ _ (sym c.may_stand.ensures ∙ c.if-not-may_stand.false) c.if-count-eq0.true in
+    surveying_up c.loop-node.invariant (omega arith) c.if-count-eq0.true leaf (omega arith) c.if-kept-eq0.false
+
 pub loop-node-preserved : goal.loop-node-preserved
 loop-node-preserved g c =
-    let i = c.loop-node.invariant in
-    let h : 2 * c.loop-node.node + 1 < length c.args.subject.now = omega arith in
-    let m = sym c.may_stand.ensures ∙ c.if-not-may_stand.false in
-    elim c.if-count-ne0.branch [
-      | then-count-ne0 w ↦
-          rw (w.waiting-is, w.kept-is, w.here-is, w.keep-kept.ensures, w.inside.ensures) (surveying_down i h (stands_in _ _ _ m w.if-count-ne0.true) w.if-count-ne0.true)
-      | else-count-ne0+then-here w ↦ rw (w.waiting-is, w.kept-is, w.here-is) (surveying_more i h (omega arith) (stands_leaf _ _ _ m (omega arith)) w.if-here.true)
-      | else-count-ne0+else-here+else-kept-eq0 w ↦
-          rw (w.waiting-is, w.kept-is, w.here-is) (surveying_up i h (omega arith) (stands_leaf _ _ _ m (omega arith)) (omega arith) w.if-kept-eq0.false)
-    ]
+    let goes = stands_in _ _ _ (sym c.may_stand.ensures ∙ c.if-not-may_stand.false) c.if-count-eq0.false in
+    rw (c.keep-kept.ensures, c.inside.ensures) (surveying_down c.loop-node.invariant (omega arith) goes c.if-count-eq0.false)
 
 pub returns : goal.returns
 returns g c = surveyed_refused _ _ (surveying_short c.loop-node.invariant (omega arith))
