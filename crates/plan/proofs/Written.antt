@@ -4,7 +4,7 @@ use Prim.Native.Nat.{ℕ, ◌+◌, ◌-◌, ◌*◌, ◌/◌, ◌%◌, ◌≤◌
 use native.Mathlib.Numerals.{add-one}
 use native.Mathlib.Omega.{arith}
 use mathlib.Core.List.{List, [], ◌∷◌, ◌++◌}
-use lib.ListN.{length, drop, get_or, set, length-append}
+use lib.ListN.{length, take, drop, get_or, set, length-append, length-take}
 use lib.Seq.{sets, length-sets, drop-cons, length-take-le}
 use Rattle.documents.proofs.Lists.{sets_append}
 use Rattle.plan.specs.Line.{decimal, behind, line_of, Wrote, Counts}
@@ -64,6 +64,10 @@ pub wrote_line : {old a b new : List ℕ} {j k next : ℕ} (number count : ℕ) 
     → Wrote old a 0 j (decimal number) → Wrote a b j k (32 ∷ decimal count) → Wrote b new k next (behind words) → Wrote old new 0 next (line_of (number ∷ count ∷ words))
 unfolding line_of
 wrote_line number count words u v w = wrote_then u (wrote_then v w)
+
+-- 11 bytes a number, for so many words at the front of a table
+pub line_room : (n : ℕ) (table line : List ℕ) → n ≤ 8192 → length line ≡ 90134 → 11 * (2 + length (take n table)) ≤ length line
+line_room n table line h l = omega (arith, length-take n table)
 
 -- the same numbers, and the part of the bytes that they fill
 pub line_counts : {old new : List ℕ} {next : ℕ} {ns : List ℕ} (ms : List ℕ) → ns ≡ ms → Wrote old new 0 next (line_of ns) × (next ≤ length new) → Wrote old new 0 next (line_of ms) × Counts next new

@@ -1,9 +1,9 @@
 -- What the three calls of plan_apply come to, one after the other (document 01, 'Bytes and the program'): 'reads a file .., compiles, runs .., and
 -- prints one line: number, word count, result words .. The first call that refuses ends the work; its number and a 0 are the line.'
-use Rattle.std.specs.Prelude.{◌≡◌, ℕ, cond, List, eqb, take, Result}
+use Rattle.std.specs.Prelude.{◌≡◌, ℕ, cond, List, eqb, take}
 use Rattle.documents.specs.Calls.{ReadAnswer, read_call, CompileAnswer, compile_call, RunAnswer, run_call}
-use Rattle.documents.specs.declared.Refusal.{Refusal}
-use Rattle.runner.specs.Answers.{given}
+use Rattle.answers.specs.declared.ReedAnswer.{ReedAnswer}
+use Rattle.reedbiscuit.specs.Answers.{run_given}
 
 -- the line's number and word count, and the tables lent to compile and run, afterwards
 pub record Planned : Type 0 where
@@ -42,6 +42,6 @@ Leaves a left right subject = (left ≡ a.left) × (right ≡ a.right) × (subje
 
 -- ---- The code's answers
 
--- 01's number and count, and the tables lent to compile and run, afterwards
-abbrev pub told : Result ℕ Refusal → List ℕ → List ℕ → List ℕ → Planned
-told r code working result = after_run code (given r working result)
+-- the numbers of a struct, and the tables lent to compile and run, afterwards
+abbrev pub told : ReedAnswer → List ℕ → List ℕ → List ℕ → Planned
+told a code working result = after_run code (run_given a working result)

@@ -9,12 +9,11 @@ ghost use Rattle.plan.specs.Line.{line_of, Wrote, Counts};
 ghost use Rattle.plan.specs.Program.{told, planned, Leaves};
 
 use crate::line::{NUMBER_BYTES, put_line};
-use answers::ReedAnswer;
-use compiler::compile;
-use documents::Refusal;
+use answers::{DONE, ReedAnswer};
 use instructions::limit::MOST_WORDS;
-use reader::{SIDE_WORDS, SUBJECT_WORDS, WORD_BYTES, read};
-use runner::{WORKING_WORDS, run};
+use reader::{SIDE_WORDS, SUBJECT_WORDS, WORD_BYTES};
+use reedbiscuit::{reed_compile, reed_read, reed_run};
+use runner::WORKING_WORDS;
 
 // The words of the result table that the program lends.
 const RESULT_WORDS: usize = 8192;
@@ -45,12 +44,12 @@ pub fn line_for(file: &[u8], line: &mut [u8; LINE_BYTES]) -> usize
         &mut working,
         &mut result,
     );
-    let answer = ReedAnswer::from(applied);
-    let words = answer.words as usize;
-    put_line(answer.number, answer.words, &result[..words], line)
+    let words = applied.words as usize;
+    put_line(applied.number, applied.words, &result[..words], line)
 }
 
-// Reads, compiles and runs. The first call that refuses ends the work.
+// Reads, compiles and runs, by the library's own calls. The first call that refuses ends the work.
+// Kept (point 1): these calls answer by 01's numbers, as they answer C, and the program is to go through them (docs/DECISIONS.md, 80).
 // Kept (point 5): a public function, which asks for its tables one by one as the calls of C do.
 pub fn apply(
     file: &[u8],
@@ -60,13 +59,25 @@ pub fn apply(
     code: &mut [u32],
     working: &mut [u32],
     res: &mut [u32],
-) -> Result<u32, Refusal>
+) -> ReedAnswer
     ensures { (told result code.new working.new res.new ≡ planned file.now left.old right.old subject.old code.old working.old res.old) × Leaves (read_call file.now left.old right.old subject.old) left.new right.new subject.new }
 {
-    let counts = read(file, left, right, subject)?;
-    let left = &left[..counts.left as usize];
-    let right = &right[..counts.right as usize];
-    let subject = &subject[..counts.subject as usize];
-    let words = compile(left, right, code)?;
-    run(&code[..words as usize], subject, working, res)
+    let read = reed_read(file, left, right, subject);
+    if read.number != DONE {
+        return ReedAnswer {
+            number: read.number,
+            words: 0,
+        };
+    }
+    let left = &left[..read.left as usize];
+    let right = &right[..read.right as usize];
+    let subject = &subject[..read.subject as usize];
+    let compiled = reed_compile(left, right, code);
+    if compiled.number != DONE {
+        return ReedAnswer {
+            number: compiled.number,
+            words: 0,
+        };
+    }
+    reed_run(&code[..compiled.words as usize], subject, working, res)
 }

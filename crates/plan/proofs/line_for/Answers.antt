@@ -8,10 +8,10 @@ use borrow.Author.Rules.{rules}
 use Rattle.plan.proofs.line_for.Goals as goal
 
 pub slice_bounds-result-end : goal.slice_bounds-result-end
-slice_bounds-result-end c = let w = plan_within _ _ _ _ _ c.apply-applied.ensures.0 c.from-answer.ensures in search rules
+slice_bounds-result-end c = let w = plan_within _ _ c.apply-applied.ensures.0 in search rules
 
 pub slice_bounds-put_line-end : goal.slice_bounds-put_line-end
-slice_bounds-put_line-end c = let w = plan_within _ _ _ _ _ c.apply-applied.ensures.0 c.from-answer.ensures in sym (length-take-le _ _ (omega arith))
+slice_bounds-put_line-end c = let w = plan_within _ _ c.apply-applied.ensures.0 in sym (length-take-le _ _ (omega arith))
 
 pub returns : goal.returns
-returns c = line_counts _ (plan_line_lem _ _ _ _ _ c.apply-applied.ensures.0 c.from-answer.ensures) c.put_line.ensures
+returns c = line_counts _ (plan_line_lem _ _ c.apply-applied.ensures.0) c.put_line.ensures
