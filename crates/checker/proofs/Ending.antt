@@ -7,7 +7,8 @@ use mathlib.Core.Option.{none, some}
 use mathlib.Core.List.{List, [], ◌∷◌}
 use lib.Dec.{eqb, leb, ltb}
 use lib.ListN.{length, get_or, get_elem?}
-use Rattle.std.specs.Prelude.{Result, Ok, Err}
+use denote.Enum.Declared.{tag_of}
+use Rattle.std.specs.Prelude.{Result, Ok, Err, IfOk}
 use borrow.Author.Tests.{eqb-true, eqb-false, ne_eqb, lt-ltb, le-ltb, ltb-true, ltb-false, leb-true, leb-false}
 use Rattle.documents.specs.declared.Refusal.{Refusal}
 use Rattle.documents.specs.declared.Refusal.TheVariants.{DoesNotPass}
@@ -19,6 +20,7 @@ use Rattle.instructions.proofs.Reading.{fetched_is, fetched_op, fetched_opcode}
 use Rattle.indices.specs.Sets.{inserted, full}
 use Rattle.checker.specs.declared.build.Ended.{Ended}
 use Rattle.checker.specs.declared.build.Ended.TheVariants as ended
+use Rattle.checker.specs.contracts.build.Ended.{the_type}
 use Rattle.checker.specs.Built.{terms_at, bodies_obey, Operands, entry_obeys, makes_one, onward, ended_if, Ends}
 use Rattle.checker.proofs.Making.{goes_on, terms_on, terms_grow, makes_unfetched, makes_open, makes_closed, makes_shut, makes_ended, makes_plain, makes_pushimm}
 use Rattle.checker.proofs.Pushing.{allow, place_on, makes_push, makes_whole, push_absent, push_range, obey_done, obey_short, obey_step}
@@ -313,3 +315,15 @@ module _ {t : List ℕ} {a₀ e c₀ : ℕ} {es : List Slot} {l nest b m₀ a c 
           bodied_next i p q d u =
               let v = g.later in
               record { same = step fits true (rw (lt-ltb (get_or t a 0) b p, lt-ltb nest 64 q, body, d)) ∙ rw u; later = omega arith; within = fits }
+
+-- ---- what an answer knows of which one case is excluded: it is another end, or refused
+
+pub key_not_shut : (r : Result Ended Refusal) → IfOk r (λ how. tag_of the_type how ≡ 1) → (p : ℕ) → r ≡ Ok (ended.Shut p) → ⊥
+key_not_shut (Ok (ended.Shut p)) k q e = omega arith
+key_not_shut (Ok ended.Done) k q e = never (cc)
+key_not_shut (Err w) k q e = never (cc)
+
+pub key_not_done : (r : Result Ended Refusal) → IfOk r (λ how. tag_of the_type how ≡ 0) → r ≡ Ok ended.Done → ⊥
+key_not_done (Ok (ended.Shut p)) k e = never (cc)
+key_not_done (Ok ended.Done) k e = omega arith
+key_not_done (Err w) k e = never (cc)

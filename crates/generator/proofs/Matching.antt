@@ -23,14 +23,14 @@ use Rattle.documents.proofs.Lists.{never}
 use Rattle.kahrs.proofs.Simple.{len_vars, unvar_vars, Simple}
 use Rattle.compiled.proofs.Unlisted.{unlisted, unlisted_others, length_up_to}
 use Rattle.tables.specs.Parts.{terms, front, Begins, word_count}
-use Rattle.tables.proofs.Parts.{join, Step, step, begins_less, passed, in_table, no_terms, front_term}
+use Rattle.tables.proofs.Parts.{join, Step, step, begins_less, passed, words_fit, in_table, no_terms, front_term}
 use Rattle.tables.specs.declared.walk.Node.{Node}
 use Rattle.tables.specs.declared.walk.Nodes.{Nodes}
 use Rattle.tables.specs.Nodes.{Stands, starts, part_at, node_gives, goes_past}
 use Rattle.tables.proofs.Nodes.{word_there, count_there, part_there, whole_on, owed_on, arguments_pass, whole_past, at_past, owed_past}
 use Rattle.tables.proofs.Walks.{at_variable, at_abstraction, Walk, walk_from, walk_variable, ended, Walking, walking_from, walking_on, walking_term, walking_ended}
 use Rattle.tables.proofs.Sides.{is_variable, variables_behind}
-use Rattle.tables.proofs.Fronts.{below_abstraction, root, arguments_begin, argument_count, front_metavariable, front_abstraction}
+use Rattle.tables.proofs.Fronts.{root_words, below_abstraction, root, arguments_begin, argument_count, front_metavariable, front_abstraction}
 use Rattle.std.specs.Prelude.{Some, None}
 use Rattle.symbols.specs.Rows.{rows_in, found_in}
 use Rattle.symbols.proofs.Entering.{are_vars_vars, simple_join, nodes_vars}
@@ -470,6 +470,15 @@ module _ {part rows old new : List ℕ} {under sets₀ at owed read sets place :
           writing = writing_on (left_code rows under sets (front (drop read part))) _ term_here d.wrote;
         })
 
+    -- it is passed over
+    pub term_read : read < read + r.read
+    term_read =
+        let b = begins_less 1 (omega arith) t.walking.walk.begins in
+        let w = words_fit 1 (drop read part) b in
+        let e : nodes (terms 1 (drop read part)) ≡ nodes (front (drop read part)) + 0 = ap (λ (x : Terms). nodes x) (front_term (drop read part) b) in
+        let q = d.read in
+        omega arith
+
 -- ---- The terms still to be translated, node by node
 
 -- where the walk stands in the part
@@ -577,3 +586,14 @@ module _ {part rows code : List ℕ} {under sets at : ℕ} (a : Asked part rows 
         sets_left = d.sets_left ∙ sym (ap (sets_after (rows_in rows) sets) body_is);
         wrote = writing_last body_here (rw (add-one under) at d.wrote);
       }
+
+      -- its words are within the part
+      pub body_read : {newer : List ℕ} {r : Matched} → Done (drop 2 part) rows new newer (under + 1) sets inside r → 2 + r.read ≤ length part
+      body_read d =
+          let b = (at_abstraction part 0 1 a.begins (omega arith) v).body in
+          let f = (words_fit 1 (drop 2 part) b).1 in
+          let n : nodes (terms 1 (drop 2 part)) ≡ nodes (front (drop 2 part)) + 0 = ap (λ (x : Terms). nodes x) (front_term (drop 2 part) b) in
+          let l = length-drop 2 part in
+          let w = root_words a.begins in
+          let q = d.read in
+          omega arith

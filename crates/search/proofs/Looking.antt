@@ -25,8 +25,9 @@ use Rattle.rule_table.specs.Places.{Places}
 use Rattle.dispatch.specs.Sorted.{Sorted, Candidates}
 use Rattle.levels.specs.Levels.{Above}
 use Rattle.levels.proofs.Above.{above_node, above_back, Looked, looked_starts, looked_here, looked_further, looked_all}
+use Rattle.rewriter.specs.declared.Redex.{Redex}
 use Rattle.search.specs.declared.Tried.{Tried}
-use Rattle.search.specs.Searches.{redex_of, Trying, TriedAs, Tries, Searching, Redexed, Finds, FindsAbove}
+use Rattle.search.specs.Searches.{redex_of, Trying, TriedAs, Tries, Searching, Redexed, Finds, FoundAbove, FindsAbove}
 use Rattle.search.proofs.Attempting.{none_tried}
 
 -- ---- A node of a plan, and the part that begins there
@@ -174,3 +175,23 @@ module _ {rules starts roots seconds plan : List ℕ} {from : ℕ} {above : List
   pub above_ends : {now : List ℕ} {i : ℕ} → LookingAbove rules starts roots seconds plan from above level entries now i → level ≤ i
       → FindsAbove rules starts roots seconds plan from above above level entries now None
   above_ends a q = record { long = a.room; says = λ cs s. (refl, looked_all (a.looked cs s) q) }
+
+  -- ---- Both
+
+  module _ {above' entries' : List ℕ} where
+    pub found_above : {r : Prelude.Option Redex} {x : Redex} → FindsAbove rules starts roots seconds plan from above above' level entries entries' r → r ≡ Some x
+        → Finds rules starts roots seconds plan from above above' level entries entries' 0 r
+    found_above {r} {x} f e = rw e (record { long = f.long; says = λ cs s. let y : FoundAbove rules starts plan from above above' entries' cs (Some x) = rw e at (f.says cs s) in y })
+
+    module _ {r : Prelude.Option Redex} (f : FindsAbove rules starts roots seconds plan from above above' level entries entries' r) (e : r ≡ None) where
+      nowhere_above : {cs : List Program} → Searching rules starts roots seconds plan from above level entries 0 cs → Searching rules starts roots seconds plan from above' level entries' from cs
+      nowhere_above {cs} s =
+          let y : FoundAbove rules starts plan from above above' entries' cs None = rw e at (f.says cs s) in
+          record { places = s.places; sorted = s.sorted; above_is = rw y.0 s.above_is; searched = y.1; room = f.long }
+
+      pub then_from : (p : (cs : List Program) × Searching rules starts roots seconds plan from above level entries 0 cs) → (cs : List Program) × Searching rules starts roots seconds plan from above' level entries' from cs
+      then_from (cs, s) = (cs, nowhere_above s)
+
+      pub found_from : {above'' entries'' : List ℕ} {x : Prelude.Option Redex} → Finds rules starts roots seconds plan from above' above'' level entries' entries'' from x
+          → Finds rules starts roots seconds plan from above above'' level entries entries'' 0 x
+      found_from g = record { long = g.long; says = λ cs s. g.says cs (nowhere_above s) }
