@@ -167,7 +167,7 @@ pub write_free-bounds-code-key : goal.write_free-bounds-code-key
 write_free-bounds-code-key t c = let y = ready_of c.args.given.now.known c.args.place.few c.args.place.small c.requires.0 in let v = free_falls c.requires.2 _ (key_found _ _ (sym c.find.ensures ∙ c.in-Some.is)) c.requires.1.wanted in let s = y.scene.code_short in let m = y.scene.work_long in let q = y.small in let i = c.requires.2.shallow in search rules
 
 pub write_free-invariant_of-under : goal.write_free-invariant_of-under
-write_free-invariant_of-under t c = let y = ready_of c.args.given.now.known c.args.place.few c.args.place.small c.requires.0 in let b = body_ready y c.requires.2 (key_found _ _ (sym c.find.ensures ∙ c.in-Some.is)) refl c.requires.1.wanted in record { few = b.lambdas; small = b.small }
+write_free-invariant_of-under t c = let y = ready_of c.args.given.now.known c.args.place.few c.args.place.small c.requires.0 in let b = body_ready y c.requires.2 (key_found _ _ (sym c.find.ensures ∙ c.in-Some.is)) refl c.requires.1.wanted in record { few = b.lambdas; small = let s = b.small in omega arith }
 
 pub write_free-write-requires : goal.write_free-write-requires
 write_free-write-requires t c = let y = ready_of c.args.given.now.known c.args.place.few c.args.place.small c.requires.0 in let v = free_falls c.requires.2 _ (key_found _ _ (sym c.find.ensures ∙ c.in-Some.is)) c.requires.1.wanted in (omega (arith, v.1, c.decreases), (going_of (body_ready y c.requires.2 (key_found _ _ (sym c.find.ensures ∙ c.in-Some.is)) refl c.requires.1.wanted), room_from (body_tree y c.requires.2 (key_found _ _ (sym c.find.ensures ∙ c.in-Some.is)) (omega arith)) c.requires.1))
